@@ -1,0 +1,11 @@
+pub mod Builds
+pub mod Chains
+pub mod Checks
+pub mod Cones
+pub mod Detects
+pub mod Finds
+pub mod Joins
+pub mod Laws
+pub mod Numbers
+pub mod Readings
+pub mod Takes

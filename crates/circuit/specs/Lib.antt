@@ -1,0 +1,10 @@
+pub mod Bridges
+pub mod Detection
+pub mod Feedback
+pub mod Gates
+pub mod Kinds
+pub mod Levels
+pub mod Refusals
+pub mod Rows
+pub mod Search
+pub mod Vectors
