@@ -23,9 +23,9 @@ cells-more f cells i x h = ap (map f) (take-more-set cells i x h) ∙ map-append
 -- one line evaluated: what is left to make is unchanged
 module _ {V : Type 0} (reads : V → Level) (rows : List Row) (v : List ℕ) (cells : List V) (i next : ℕ) (made : V) where
   pub levels-more :
-    i < length rows → i < length cells → next ≡ inputs-before rows i →
-    reads made ≡ row-level (row-at rows i) v next (map reads (take (i - 0) cells)) →
-    build (line-level rows v) (drop (i + 1) rows) (map reads (take (i + 1) (set cells i made))) ≡ build (line-level rows v) (drop i rows) (map reads (take i cells))
+      i < length rows → i < length cells → next ≡ inputs-before rows i →
+      reads made ≡ row-level (row-at rows i) v next (map reads (take (i - 0) cells)) →
+      build (line-level rows v) (drop (i + 1) rows) (map reads (take (i + 1) (set cells i made))) ≡ build (line-level rows v) (drop i rows) (map reads (take i cells))
   levels-more h room n e =
       let past : List Level = map reads (take i cells) in
       let row : Row = row-at rows i in
@@ -55,7 +55,7 @@ build-place f d (r ∷ rs) past zero h =
     let long : length more ≡ length past + 1 = length-push past (f past r) in
     let here : length past + 0 ≡ length past = omega arith in
     let at : getD all (length past) d ≡ f past r =
-      sym (getD-take (length more) all (length past) d (omega arith)) ∙ ap (λ l. getD l (length past) d) (build-front f rs more) ∙ getD-push past (f past r) d (length past) refl
+    sym (getD-take (length more) all (length past) d (omega arith)) ∙ ap (λ l. getD l (length past) d) (build-front f rs more) ∙ getD-push past (f past r) d (length past) refl
     in
     let front : take (length past) all ≡ past = build-front f (r ∷ rs) past in
     rw here (at ∙ ap (λ l. f l r) (sym front))

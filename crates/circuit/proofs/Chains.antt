@@ -35,17 +35,17 @@ module _ (rows : List Row) (sound : lawful rows ≡ true) (u : ℕ) where
   reached zero v l h e = absurd (omega arith)
   reached (suc k) v l h e =
       let ps : List ℕ = pins-of (row-at rows v) in
-      elim (or-cases _ _ (sym (reach-at v h) ∙ e))
-      [ inl same ↦ inl (eqb-true v u same)
-      | inr pin ↦
-        let at = some-at (length ps) (λ j. feedback rows u (getD ps j 0)) pin in
-        let p : ℕ = getD ps (at .0) 0 in
-        let below : p < v = row-below v (row-at rows v) (lawful-row rows sound v h) (at .0) (at .1) in
-        let is-pin : IsPin rows p v = record { line = h; place = at .0; used = at .1; here = refl } in
-        elim (reached k p (omega arith) (omega arith) (at .2))
-        [ inl same ↦ inr (link (subst (λ w. IsPin rows w v) same is-pin))
-        | inr chain ↦ inr (longer chain is-pin)
-        ]
+      elim (or-cases _ _ (sym (reach-at v h) ∙ e)) [
+        | inl same ↦ inl (eqb-true v u same)
+        | inr pin ↦
+            let at = some-at (length ps) (λ j. feedback rows u (getD ps j 0)) pin in
+            let p : ℕ = getD ps (at .0) 0 in
+            let below : p < v = row-below v (row-at rows v) (lawful-row rows sound v h) (at .0) (at .1) in
+            let is-pin : IsPin rows p v = record { line = h; place = at .0; used = at .1; here = refl } in
+            elim (reached k p (omega arith) (omega arith) (at .2)) [
+              | inl same ↦ inr (link (subst (λ w. IsPin rows w v) same is-pin))
+              | inr chain ↦ inr (longer chain is-pin)
+            ]
       ]
 
   -- a pin that is reached, or is u itself

@@ -24,18 +24,18 @@ module _ (rows : List Row) (u : ℕ) (marks : List Bool) (marked : take (length 
   -- the marks past u, `&marks[u + 1..lines]`, count its feedback bridges
   module _ (room : length rows ≤ length marks) (h : u < length rows) where
     pub cone-count :
-      count (begin (length rows) u) (feedback-bridge rows) + count (length (take (length rows - (u + 1)) (drop (u + 1) marks))) (λ k. getD (take (length rows - (u + 1)) (drop (u + 1) marks)) k false)
-      ≡ count (begin (length rows) (u + 1)) (feedback-bridge rows)
+        count (begin (length rows) u) (feedback-bridge rows) + count (length (take (length rows - (u + 1)) (drop (u + 1) marks))) (λ k. getD (take (length rows - (u + 1)) (drop (u + 1) marks)) k false)
+        ≡ count (begin (length rows) (u + 1)) (feedback-bridge rows)
     cone-count =
         let n : ℕ = length rows in
         let w : ℕ = n - 1 - u in
         let part : List Bool = take (n - (u + 1)) (drop (u + 1) marks) in
         let long : length part ≡ w = length-take-le (n - (u + 1)) (drop (u + 1) marks) (omega (arith, length-drop (u + 1) marks)) ∙ omega arith in
         let same : (k : ℕ) → k < w → getD part k false ≡ feedback-bridge rows (begin n u + k) =
-          λ k l.
-            let ends = row-bridge n u k h l in
-            getD-take (n - (u + 1)) (drop (u + 1) marks) k false (omega arith) ∙ getD-drop (u + 1) marks k false ∙ cone-read (u + 1 + k) (omega arith)
-            ∙ ap (feedback rows u) (sym (ends .1)) ∙ ap (λ a. feedback rows a (high n (begin n u + k))) (sym (ends .0))
+        λ k l.
+        let ends = row-bridge n u k h l in
+        getD-take (n - (u + 1)) (drop (u + 1) marks) k false (omega arith) ∙ getD-drop (u + 1) marks k false ∙ cone-read (u + 1 + k) (omega arith)
+        ∙ ap (feedback rows u) (sym (ends .1)) ∙ ap (λ a. feedback rows a (high n (begin n u + k))) (sym (ends .0))
         in
         ap (λ m. count (begin n u) (feedback-bridge rows) + count m (λ k. getD part k false)) long
         ∙ ap (λ m. count (begin n u) (feedback-bridge rows) + m) (count-same w _ _ same)

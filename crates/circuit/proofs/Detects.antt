@@ -26,10 +26,10 @@ module _ {V : Type 0} (reads : V → Level) (cells : List V) (u v : ℕ) where
       let long : length (map reads cells) ≡ length cells = length-map cells reads in
       let n : ℕ = length (map reads cells) in
       let off : (ltb u n && ltb v n) ≡ false =
-        elim o
-        [ inl h ↦ and-left (ltb u n) (ltb v n) (le-ltb u n (omega arith))
+      elim o [
+        | inl h ↦ and-left (ltb u n) (ltb v n) (le-ltb u n (omega arith))
         | inr h ↦ and-right (ltb u n) (ltb v n) (le-ltb v n (omega arith))
-        ]
+      ]
       in
       cond-false _ _ _ off
 

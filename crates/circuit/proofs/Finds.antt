@@ -35,9 +35,9 @@ each-from (suc n) p f = and-from _ _ (each-from n p (λ k h. f k (omega arith)))
 pub each-fails : (n : ℕ) (p : ℕ → Bool) (k : ℕ) → k < n → p k ≡ false → each n p ≡ false
 each-fails zero p k h e = absurd (omega arith)
 each-fails (suc n) p k h e =
-    elim (cases-lt k n)
-    [ inl l ↦ and-left _ _ (each-fails n p k l e)
-    | inr g ↦ let same : k ≡ n = omega arith in and-right _ _ (subst (λ m. p m ≡ false) same e)
+    elim (cases-lt k n) [
+      | inl l ↦ and-left _ _ (each-fails n p k l e)
+      | inr g ↦ let same : k ≡ n = omega arith in and-right _ _ (subst (λ m. p m ≡ false) same e)
     ]
 
 pub each-same : (n : ℕ) (p q : ℕ → Bool) → ((k : ℕ) → k < n → p k ≡ q k) → each n p ≡ each n q
@@ -63,13 +63,13 @@ first-none (suc n) p f =
 pub first-is : (n : ℕ) (p : ℕ → Bool) (k : ℕ) → k < n → p k ≡ true → ((j : ℕ) → j < k → p j ≡ false) → first n p ≡ k
 first-is zero p k h e f = absurd (omega arith)
 first-is (suc n) p k h e f =
-    elim (cases-lt k n)
-    [ inl l ↦ let ih : first n p ≡ k = first-is n p k l e f in grind (arith, tells)
-    | inr g ↦
-      let same : k ≡ n = omega arith in
-      let ih : first n p ≡ n = first-none n p (λ j h. f j (omega arith)) in
-      let on : p n ≡ true = subst (λ m. p m ≡ true) same e in
-      grind (arith, tells)
+    elim (cases-lt k n) [
+      | inl l ↦ let ih : first n p ≡ k = first-is n p k l e f in grind (arith, tells)
+      | inr g ↦
+          let same : k ≡ n = omega arith in
+          let ih : first n p ≡ n = first-none n p (λ j h. f j (omega arith)) in
+          let on : p n ≡ true = subst (λ m. p m ≡ true) same e in
+          grind (arith, tells)
     ]
 
 pub first-le : (n : ℕ) (p : ℕ → Bool) → first n p ≤ n
@@ -80,43 +80,43 @@ first-le (suc n) p = grind (arith, tells, first-le n p)
 pub first-before : (n : ℕ) (p : ℕ → Bool) (k : ℕ) → k < first n p → p k ≡ false
 first-before zero p k h = absurd (omega arith)
 first-before (suc n) p k h =
-    elim (cases-lt (first n p) n)
-    [ inl l ↦ let same : first (suc n) p ≡ first n p = grind (arith, tells) in first-before n p k (omega arith)
-    | inr g ↦
-      let top : first n p ≡ n = omega (arith, first-le n p) in
-      elim (cases-bool (p n))
-      [ inl on ↦ let same : first (suc n) p ≡ n = grind (arith, tells) in first-before n p k (omega arith)
-      | inr off ↦
-        let same : first (suc n) p ≡ suc n = grind (arith, tells) in
-        elim (cases-lt k n)
-        [ inl l ↦ first-before n p k (omega arith)
-        | inr e ↦ let k-is : n ≡ k = omega arith in subst (λ m. p m ≡ false) k-is off
-        ]
-      ]
+    elim (cases-lt (first n p) n) [
+      | inl l ↦ let same : first (suc n) p ≡ first n p = grind (arith, tells) in first-before n p k (omega arith)
+      | inr g ↦
+          let top : first n p ≡ n = omega (arith, first-le n p) in
+          elim (cases-bool (p n)) [
+            | inl on ↦ let same : first (suc n) p ≡ n = grind (arith, tells) in first-before n p k (omega arith)
+            | inr off ↦
+                let same : first (suc n) p ≡ suc n = grind (arith, tells) in
+                elim (cases-lt k n) [
+                  | inl l ↦ first-before n p k (omega arith)
+                  | inr e ↦ let k-is : n ≡ k = omega arith in subst (λ m. p m ≡ false) k-is off
+                ]
+          ]
     ]
 
 pub count-mono : (m n : ℕ) (p : ℕ → Bool) → m ≤ n → count m p ≤ count n p
 count-mono m zero p h = let z : m ≡ 0 = omega arith in rw z (omega arith)
 count-mono m (suc n) p h =
-    elim (cases-lt m (suc n))
-    [ inl l ↦ omega (arith, count-mono m n p (omega arith))
-    | inr g ↦ let same : m ≡ suc n = omega arith in rw same (omega arith)
+    elim (cases-lt m (suc n)) [
+      | inl l ↦ omega (arith, count-mono m n p (omega arith))
+      | inr g ↦ let same : m ≡ suc n = omega arith in rw same (omega arith)
     ]
 
 pub some-at : (n : ℕ) (p : ℕ → Bool) → some n p ≡ true → (k : ℕ) × (k < n) × (p k ≡ true)
 some-at zero p e = absurd (both-ways false refl e)
 some-at (suc n) p e =
-    elim (or-cases (some n p) (p n) e)
-    [ inl s ↦ let below = some-at n p s in (below .0, omega (arith, below .1), below .2)
-    | inr here ↦ (n, omega arith, here)
+    elim (or-cases (some n p) (p n) e) [
+      | inl s ↦ let below = some-at n p s in (below .0, omega (arith, below .1), below .2)
+      | inr here ↦ (n, omega arith, here)
     ]
 
 pub some-from : (n : ℕ) (p : ℕ → Bool) (k : ℕ) → k < n → p k ≡ true → some n p ≡ true
 some-from zero p k h e = absurd (omega arith)
 some-from (suc n) p k h e =
-    elim (cases-lt k n)
-    [ inl l ↦ or-left _ _ (some-from n p k l e)
-    | inr g ↦ let same : k ≡ n = omega arith in or-right _ _ (subst (λ m. p m ≡ true) same e)
+    elim (cases-lt k n) [
+      | inl l ↦ or-left _ _ (some-from n p k l e)
+      | inr g ↦ let same : k ≡ n = omega arith in or-right _ _ (subst (λ m. p m ≡ true) same e)
     ]
 
 pub some-same : (n : ℕ) (p q : ℕ → Bool) → ((k : ℕ) → k < n → p k ≡ q k) → some n p ≡ some n q
@@ -141,14 +141,14 @@ count-none n total p e t = omega (arith, count-more n p, cond-false {A = ℕ} (p
 pub first-at : (n : ℕ) (p : ℕ → Bool) → first n p < n → p (first n p) ≡ true
 first-at zero p h = absurd (omega arith)
 first-at (suc n) p h =
-    elim (cases-lt (first n p) n)
-    [ inl l ↦
-      let same : first n p ≡ first (suc n) p = grind (arith, tells) in
-      subst (λ k. p k ≡ true) same (first-at n p l)
-    | inr g ↦
-      let top : first n p ≡ n = omega (arith, first-le n p) in
-      elim (cases-bool (p n))
-      [ inl on ↦ let same : n ≡ first (suc n) p = grind (arith, tells) in subst (λ k. p k ≡ true) same on
-      | inr off ↦ let none : first (suc n) p ≡ suc n = grind (arith, tells) in absurd (omega arith)
-      ]
+    elim (cases-lt (first n p) n) [
+      | inl l ↦
+          let same : first n p ≡ first (suc n) p = grind (arith, tells) in
+          subst (λ k. p k ≡ true) same (first-at n p l)
+      | inr g ↦
+          let top : first n p ≡ n = omega (arith, first-le n p) in
+          elim (cases-bool (p n)) [
+            | inl on ↦ let same : n ≡ first (suc n) p = grind (arith, tells) in subst (λ k. p k ≡ true) same on
+            | inr off ↦ let none : first (suc n) p ≡ suc n = grind (arith, tells) in absurd (omega arith)
+          ]
     ]

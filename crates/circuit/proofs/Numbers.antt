@@ -116,38 +116,38 @@ number-some n u v a b c = cond-true _ _ _ (and-from _ _ (le-leb n 1024 a) (and-f
 
 pub number-none : (n u v : ℕ) → (n ≤ 1024 → u < v → v < n → ⊥) → number-of n u v ≡ None
 number-none n u v f =
-    elim (cases-bool (leb n 1024 && (ltb u v && ltb v n)))
-    [ inl e ↦
-      let all = and-parts (leb n 1024) _ e in
-      let two = and-parts (ltb u v) _ (all .1) in
-      absurd (f (leb-true n 1024 (all .0)) (ltb-true u v (two .0)) (ltb-true v n (two .1)))
-    | inr e ↦ cond-false _ _ _ e
+    elim (cases-bool (leb n 1024 && (ltb u v && ltb v n))) [
+      | inl e ↦
+          let all = and-parts (leb n 1024) _ e in
+          let two = and-parts (ltb u v) _ (all .1) in
+          absurd (f (leb-true n 1024 (all .0)) (ltb-true u v (two .0)) (ltb-true v n (two .1)))
+      | inr e ↦ cond-false _ _ _ e
     ]
 
 -- a bridge that was found
 pub bridge-found : (n β : ℕ) (b : Bridge) → Ok b ≡ bridge-outcome n β → (β < pairs n) × (b .low ≡ low n β) × (b .high ≡ high n β)
 bridge-found n β b e =
-    elim (cases-bool (ltb β (pairs n)))
-    [ inl on ↦
-      let e′ : Ok b ≡ Ok (record { low = low n β; high = high n β }) = e ∙ ap (λ o. okOr o (NoBridge β)) (cond-true _ _ _ on) in
-      (ltb-true β (pairs n) on, cc, cc)
-    | inr off ↦
-      let e′ : Ok b ≡ Err (NoBridge β) = e ∙ ap (λ o. okOr o (NoBridge β)) (cond-false _ _ _ off) in
-      let z : _≡_ {A = ℕ} 0 1 = cc in
-      absurd (omega arith)
+    elim (cases-bool (ltb β (pairs n))) [
+      | inl on ↦
+          let e′ : Ok b ≡ Ok (record { low = low n β; high = high n β }) = e ∙ ap (λ o. okOr o (NoBridge β)) (cond-true _ _ _ on) in
+          (ltb-true β (pairs n) on, cc, cc)
+      | inr off ↦
+          let e′ : Ok b ≡ Err (NoBridge β) = e ∙ ap (λ o. okOr o (NoBridge β)) (cond-false _ _ _ off) in
+          let z : _≡_ {A = ℕ} 0 1 = cc in
+          absurd (omega arith)
     ]
 
 pub bridge-missing : (n β : ℕ) (f : CircuitFault) → Err f ≡ bridge-outcome n β → (pairs n ≤ β) × (f ≡ NoBridge β)
 bridge-missing n β f e =
-    elim (cases-bool (ltb β (pairs n)))
-    [ inl on ↦
-      let b : Bridge = record { low = low n β; high = high n β } in
-      let e′ : Err f ≡ Ok b = e ∙ ap (λ o. okOr o (NoBridge β)) (cond-true _ _ _ on) in
-      let z : _≡_ {A = ℕ} 0 1 = cc in
-      absurd (omega arith)
-    | inr off ↦
-      let e′ : Err f ≡ Err (NoBridge β) = e ∙ ap (λ o. okOr o (NoBridge β)) (cond-false _ _ _ off) in
-      (ltb-false β (pairs n) off, cc)
+    elim (cases-bool (ltb β (pairs n))) [
+      | inl on ↦
+          let b : Bridge = record { low = low n β; high = high n β } in
+          let e′ : Err f ≡ Ok b = e ∙ ap (λ o. okOr o (NoBridge β)) (cond-true _ _ _ on) in
+          let z : _≡_ {A = ℕ} 0 1 = cc in
+          absurd (omega arith)
+      | inr off ↦
+          let e′ : Err f ≡ Err (NoBridge β) = e ∙ ap (λ o. okOr o (NoBridge β)) (cond-false _ _ _ off) in
+          (ltb-false β (pairs n) off, cc)
     ]
 
 pairs-up : (m k : ℕ) → pairs m ≤ pairs (m + k)

@@ -55,11 +55,11 @@ levels-read rows v sound =
     record {
       each-line = long;
       input = λ i h e.
-        at i h ∙ reads-input (row-at rows i .kind) _ _ e
-        ∙ ap (λ k. byte-level (getD v (inputs-before rows k) 0)) (length-take-le i ls (omega arith));
+          at i h ∙ reads-input (row-at rows i .kind) _ _ e
+          ∙ ap (λ k. byte-level (getD v (inputs-before rows k) 0)) (length-take-le i ls (omega arith));
       gate = λ i k h e g.
-        at i h ∙ reads-gate (row-at rows i .kind) k _ _ e g
-        ∙ ap (gate-level k)
+          at i h ∙ reads-gate (row-at rows i .kind) k _ _ e g
+          ∙ ap (gate-level k)
           (map-below (pin-level (take i ls)) (pin-level ls) i (pins-of (row-at rows i)) (λ p b. getD-take i ls p X b)
-            (row-below i (row-at rows i) (lawful-row rows sound i h)));
+          (row-below i (row-at rows i) (lawful-row rows sound i h)));
     }

@@ -28,9 +28,9 @@ pub words-lawful : (rows : List Row) → Lawful rows → lawful rows ≡ true
 words-lawful rows l =
     and-from _ _ (le-leb (length rows) 1024 (l .few-lines))
     (and-from _ _ (le-leb (inputs rows) 256 (l .few-inputs))
-      (each-from (length rows) (λ i. row-lawful i (row-at rows i)) (λ i h.
-        and-from (counted (row-at rows i .kind) (row-at rows i .count)) _ (l .pin-counts i h)
-        (each-from (length (pins-of (row-at rows i))) (λ j. ltb (getD (pins-of (row-at rows i)) j 0) i) (λ j k. lt-ltb _ _ (l .pins-below i h j k))))))
+    (each-from (length rows) (λ i. row-lawful i (row-at rows i)) (λ i h.
+    and-from (counted (row-at rows i .kind) (row-at rows i .count)) _ (l .pin-counts i h)
+    (each-from (length (pins-of (row-at rows i))) (λ j. ltb (getD (pins-of (row-at rows i)) j 0) i) (λ j k. lt-ltb _ _ (l .pins-below i h j k))))))
 
 module _ (rows : List Row) where
   pub lines-length : length (lines rows) ≡ line-count rows
@@ -42,7 +42,7 @@ module _ (rows : List Row) where
         front = ap (λ n. take n rows) (sym lines-length);
         filled = λ i h. not-false _ (first-before (length rows) (λ i. not (named (row-at rows i))) i (omega (arith, lines-length)));
         stops = λ h.
-          not-true _ (subst (λ n. not (named (row-at rows n)) ≡ true) (sym lines-length)
+            not-true _ (subst (λ n. not (named (row-at rows n)) ≡ true) (sym lines-length)
             (first-at (length rows) (λ i. not (named (row-at rows i))) (omega (arith, lines-length))));
       }
 
@@ -55,23 +55,23 @@ module _ (rows : List Row) where
   words-rest f =
       each-from (length rows) (λ i. ltb i (line-count rows) || not (named (row-at rows i)))
       (λ i h. elim (cases-lt i (line-count rows))
-        [ inl l ↦ or-left _ _ (lt-ltb i (line-count rows) l) | inr g ↦ or-right (ltb i (line-count rows)) _ (not-from-false _ (f i g h)) ])
+      [ inl l ↦ or-left _ _ (lt-ltb i (line-count rows) l) | inr g ↦ or-right (ltb i (line-count rows)) _ (not-from-false _ (f i g h)) ])
 
   pub taken-accepts : Lawful (lines rows) → BlankAfter rows → taken rows ≡ lines rows
   taken-accepts l b = cond-true _ _ _ (and-from _ _ (words-lawful (lines rows) l) (words-rest b))
 
   pub taken-refuses : (Lawful (lines rows) → BlankAfter rows → ⊥) → taken rows ≡ []
   taken-refuses f =
-      elim (cases-bool (lawful (lines rows) && rest-blank rows))
-      [ inl e ↦
-        let both = and-parts (lawful (lines rows)) _ e in
-        absurd (f (lawful-words (lines rows) (both .0)) (rest-words (both .1)))
-      | inr e ↦ cond-false _ _ _ e
+      elim (cases-bool (lawful (lines rows) && rest-blank rows)) [
+        | inl e ↦
+            let both = and-parts (lawful (lines rows)) _ e in
+            absurd (f (lawful-words (lines rows) (both .0)) (rest-words (both .1)))
+        | inr e ↦ cond-false _ _ _ e
       ]
 
   pub taken-lawful : Lawful (taken rows)
   taken-lawful =
-      elim (cases-bool (lawful (lines rows) && rest-blank rows))
-      [ inl e ↦ subst Lawful (sym (cond-true _ _ _ e)) (lawful-words (lines rows) (and-parts (lawful (lines rows)) _ e .0))
-      | inr e ↦ subst Lawful (sym (cond-false _ _ _ e)) (lawful-words [] refl)
+      elim (cases-bool (lawful (lines rows) && rest-blank rows)) [
+        | inl e ↦ subst Lawful (sym (cond-true _ _ _ e)) (lawful-words (lines rows) (and-parts (lawful (lines rows)) _ e .0))
+        | inr e ↦ subst Lawful (sym (cond-false _ _ _ e)) (lawful-words [] refl)
       ]

@@ -1,5 +1,5 @@
-ghost use Prim.Native.Nat.{_≤_};
-ghost use Rattle.circuit.specs.Bridges.{bridge-of, number-of, Numbered};
+ghost use Prim.Native.Nat.{_+_, _^_, _<_, _≤_};
+ghost use Rattle.circuit.specs.Bridges.{bridge-of, number, number-of, Numbered};
 ghost use mathlib.Core.Path.{_≡_};
 use crate::limit::MAX_LINES;
 
@@ -8,6 +8,17 @@ use crate::limit::MAX_LINES;
 pub struct Bridge {
     pub low: usize,
     pub high: usize,
+}
+
+// The bridge from `low` to the line so many past its next one.
+fn bridge_past(low: usize, rest: usize) -> Bridge
+    requires { ⌜ low + 1 + rest < 2 ^ 64 ⌝ }
+    ensures { λ r. ⌜ r ≡ record { low = low; high = low + 1 + rest } ⌝ }
+{
+    Bridge {
+        low,
+        high: low + 1 + rest,
+    }
 }
 
 // The bridge of a number among those of so many lines; none past the last.
@@ -19,11 +30,20 @@ pub fn bridge_at(lines: usize, number: usize) -> Option<Bridge>
     for low in 0..lines {
         let width = lines - 1 - low;
         if rest < width {
-            return Some(Bridge { low, high: low + 1 + rest });
+            return Some(bridge_past(low, rest));
         }
         rest -= width;
     }
     None
+}
+
+fn number(lines: usize, low: usize, high: usize) -> usize
+    requires few { ⌜ lines ≤ 1024 ⌝ }
+    requires ordered { ⌜ low < high ⌝ }
+    requires within { ⌜ high < lines ⌝ }
+    ensures { λ r. ⌜ r ≡ number lines low high ⌝ }
+{
+    low * lines - low * (low + 1) / 2 + high - low - 1
 }
 
 // The number of a bridge among those of so many lines; none where it is no bridge of them, or where
@@ -36,5 +56,5 @@ pub fn bridge_number(lines: usize, bridge: Bridge) -> Option<usize>
     if lines > MAX_LINES || low >= high || high >= lines {
         return None;
     }
-    Some(low * lines - low * (low + 1) / 2 + high - low - 1)
+    Some(number(lines, low, high))
 }

@@ -4,7 +4,8 @@ ghost use mathlib.Core.Bool.{true};
 ghost use mathlib.Core.Path.{_≡_};
 use crate::row::Row;
 
-mod asking;
+mod bridges;
+mod counts;
 mod evaluating;
 mod taking;
 

@@ -45,8 +45,16 @@ impl CircuitFault {
         ensures { λ r. ⌜ r ≡ refusal-of self ⌝ }
     {
         match self {
-            CircuitFault::NoLine { line } => Refusal { number: 17, place: line, layer: Layer::Circuit },
-            CircuitFault::NoBridge { bridge } => Refusal { number: 17, place: bridge, layer: Layer::Circuit },
+            CircuitFault::NoLine { line } => Refusal {
+                number: 17,
+                place: line,
+                layer: Layer::Circuit,
+            },
+            CircuitFault::NoBridge { bridge } => Refusal {
+                number: 17,
+                place: bridge,
+                layer: Layer::Circuit,
+            },
         }
     }
 }

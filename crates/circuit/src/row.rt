@@ -1,5 +1,5 @@
 ghost use Rattle.circuit.specs.Kinds.{is-input};
-ghost use Rattle.circuit.specs.Rows.{named, pins-of};
+ghost use Rattle.circuit.specs.Rows.{inputs, named, pins-of};
 ghost use mathlib.Core.Bool.{not};
 ghost use mathlib.Core.Path.{_≡_};
 use crate::kind::Kind;
@@ -22,7 +22,13 @@ pub struct Row {
 }
 
 impl Row {
-    pub const BLANK: Row = Row { kind: None, count: 0, pins: [0; 8], output: false, name: Span { offset: 0, len: 0 } };
+    pub const BLANK: Row = Row {
+        kind: None,
+        count: 0,
+        pins: [0; 8],
+        output: false,
+        name: Span { offset: 0, len: 0 },
+    };
 
     pub fn is_blank(&self) -> bool
         ensures { λ r. ⌜ r ≡ not (named (now (self .entry))) ⌝ }
@@ -51,4 +57,16 @@ impl Row {
             }
         }
     }
+}
+
+pub fn input_count(rows: &[Row]) -> usize
+    ensures { λ r. ⌜ r ≡ inputs (now (rows .entry)) ⌝ }
+{
+    let mut count = 0;
+    for row in rows {
+        if row.is_input() {
+            count += 1;
+        }
+    }
+    count
 }

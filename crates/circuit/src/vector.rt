@@ -40,7 +40,9 @@ pub fn check_vector(vector: &[u8], inputs: usize, x_allowed: bool) -> Result<(),
     ensures { λ r. ⌜ r ≡ vector-outcome «x_allowed» inputs (now (vector .entry)) ⌝ }
 {
     if vector.len() != inputs {
-        return Err(VectorFault::Length { length: vector.len() });
+        return Err(VectorFault::Length {
+            length: vector.len(),
+        });
     }
     for (index, byte) in vector.iter().enumerate() {
         if !is_allowed(*byte, x_allowed) {

@@ -10,6 +10,21 @@ pub struct ThreeWay {
     high: bool,
 }
 
+const ZERO: ThreeWay = ThreeWay {
+    driven: true,
+    high: false,
+};
+
+const ONE: ThreeWay = ThreeWay {
+    driven: true,
+    high: true,
+};
+
+const UNDRIVEN: ThreeWay = ThreeWay {
+    driven: false,
+    high: false,
+};
+
 pub impl LineValue for ThreeWay as ThreeWayLine {
     const KNOWS_X: bool = true;
 
@@ -23,9 +38,9 @@ pub impl LineValue for ThreeWay as ThreeWayLine {
 
     fn make(byte: u8) -> Option<Self> {
         match byte {
-            b'0' => Some(ThreeWay { driven: true, high: false }),
-            b'1' => Some(ThreeWay { driven: true, high: true }),
-            b'X' => Some(ThreeWay { driven: false, high: false }),
+            b'0' => Some(ZERO),
+            b'1' => Some(ONE),
+            b'X' => Some(UNDRIVEN),
             _ => None,
         }
     }
@@ -39,20 +54,32 @@ pub impl LineValue for ThreeWay as ThreeWayLine {
     }
 
     fn not(self) -> Self {
-        ThreeWay { driven: self.driven, high: !self.high }
+        ThreeWay {
+            driven: self.driven,
+            high: !self.high,
+        }
     }
 
     fn and(self, other: Self) -> Self {
         let held = (self.driven & !self.high) | (other.driven & !other.high);
-        ThreeWay { driven: held | (self.driven & other.driven), high: self.high & other.high }
+        ThreeWay {
+            driven: held | (self.driven & other.driven),
+            high: self.high & other.high,
+        }
     }
 
     fn or(self, other: Self) -> Self {
         let held = (self.driven & self.high) | (other.driven & other.high);
-        ThreeWay { driven: held | (self.driven & other.driven), high: self.high | other.high }
+        ThreeWay {
+            driven: held | (self.driven & other.driven),
+            high: self.high | other.high,
+        }
     }
 
     fn xor(self, other: Self) -> Self {
-        ThreeWay { driven: self.driven & other.driven, high: self.high != other.high }
+        ThreeWay {
+            driven: self.driven & other.driven,
+            high: self.high != other.high,
+        }
     }
 }

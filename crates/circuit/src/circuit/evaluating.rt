@@ -15,7 +15,11 @@ use level::line_value::LineValue;
 impl Circuit<'_> {
     // Writes what each line reads under the vector into the cell of its number. Cells past the last
     // line stay, and all of them where it refuses.
-    pub fn evaluate<V: LineValue>(&self, vector: &[u8], cells: &mut [V]) -> Result<(), EvaluationFault>
+    pub fn evaluate<V: LineValue>(
+        &self,
+        vector: &[u8],
+        cells: &mut [V],
+    ) -> Result<(), EvaluationFault>
         ensures outcome { λ r. ⌜ r ≡ evaluation-outcome knows (now (now (self .entry) .rows)) (now (vector .entry)) (length (now (cells .entry))) ⌝ }
         ensures values { λ r. ⌜ (isOk r ≡ true → map reads (take (length (now (now (self .entry) .rows))) (now (cells .exit))) ≡ levels (now (now (self .entry) .rows)) (now (vector .entry))) ⌝ }
         ensures readings { λ r. ⌜ (isOk r ≡ true → Reads (now (now (self .entry) .rows)) (now (vector .entry)) (map reads (take (length (now (now (self .entry) .rows))) (now (cells .exit))))) ⌝ }

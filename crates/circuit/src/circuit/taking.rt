@@ -1,14 +1,24 @@
-ghost use Rattle.circuit.specs.Rows.{line-count, lines, row-lawful, all-below, each-lawful, rest-blank, taken, inputs, Lawful, Lines, BlankAfter};
+ghost use Rattle.circuit.specs.Rows.{line-count, lines, row-lawful, all-below, each-lawful, rest-blank, taken, Lawful, Lines, BlankAfter};
+ghost use lib.Dec.{ltb};
 ghost use mathlib.Core.List.{[]};
 ghost use mathlib.Core.Path.{_≡_};
 use crate::circuit::Circuit;
+use crate::limit::MAX_INPUTS;
+use crate::limit::MAX_LINES;
 use crate::row::Row;
+use crate::row::input_count;
+
+fn is_below(pin: u16, line: usize) -> bool
+    ensures { λ r. ⌜ r ≡ ltb pin line ⌝ }
+{
+    (pin as usize) < line
+}
 
 fn are_below(pins: &[u16], line: usize) -> bool
     ensures { λ r. ⌜ r ≡ all-below line (now (pins .entry)) ⌝ }
 {
     for pin in pins {
-        if *pin as usize >= line {
+        if !is_below(*pin, line) {
             return false;
         }
     }
@@ -59,16 +69,20 @@ fn is_rest_blank(rows: &[Row], count: usize) -> bool
     true
 }
 
-pub(crate) fn input_count(rows: &[Row]) -> usize
-    ensures { λ r. ⌜ r ≡ inputs (now (rows .entry)) ⌝ }
+fn take_lines(rows: &[Row]) -> Circuit<'_>
+    ensures { λ r. ⌜ now (r .rows) ≡ taken (now (rows .entry)) ⌝ }
 {
-    let mut count = 0;
-    for row in rows {
-        if row.is_input() {
-            count += 1;
-        }
+    let count = line_count(rows);
+    let lines = &rows[0..count];
+    if count <= MAX_LINES
+        && input_count(lines) <= MAX_INPUTS
+        && are_lawful(lines)
+        && is_rest_blank(rows, count)
+    {
+        Circuit { rows: lines }
+    } else {
+        Circuit { rows: &[] }
     }
-    count
 }
 
 impl<'a> Circuit<'a> {
@@ -81,12 +95,6 @@ impl<'a> Circuit<'a> {
         ensures accepts { λ r. ⌜ (Lawful (lines (now (rows .entry))) → BlankAfter (now (rows .entry)) → now (r .rows) ≡ lines (now (rows .entry))) ⌝ }
         ensures refuses { λ r. ⌜ ((Lawful (lines (now (rows .entry))) → BlankAfter (now (rows .entry)) → ⊥) → now (r .rows) ≡ []) ⌝ }
     {
-        let count = line_count(rows);
-        let lines = &rows[0..count];
-        if count <= 1024 && input_count(lines) <= 256 && are_lawful(lines) && is_rest_blank(rows, count) {
-            Circuit { rows: lines }
-        } else {
-            Circuit { rows: &[] }
-        }
+        take_lines(rows)
     }
 }

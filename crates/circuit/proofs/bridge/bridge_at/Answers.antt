@@ -1,4 +1,5 @@
-use mathlib.Core.Path.{_≡_, sym}
+use mathlib.Core.Path.{_≡_, sym, ap, _∙_}
+use Rattle.std.specs.declared.option.Option.the-variants.{Some}
 use Prim.Native.Nat.{suc, _-_}
 use native.Mathlib.Omega.{arith}
 use Rattle.circuit.proofs.Numbers.{numbered, sought-here, sought-more, sought-none}
@@ -11,7 +12,7 @@ returns-then-rest-width c =
     let w = n - 1 - i in
     let e : n - i ≡ suc w = omega (arith, c .loop-low-test .taken) in
     record {
-      value = sym (sought-here n (c .args .number) i (c .loop-low .rest) (c .loop-low .inv) w e (c .if-rest-width .taken));
+      value = ap Some (c .bridge-past .ensures) ∙ sym (sought-here n (c .args .number) i (c .loop-low .rest) (c .loop-low .inv) w e (c .if-rest-width .taken));
       undone = numbered n;
     }
 

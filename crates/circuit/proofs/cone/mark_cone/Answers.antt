@@ -30,10 +30,11 @@ loop-line-again c =
     let made = c .is-reached-reached .result in
     let past : List Bool = take i marks in
     let room : i < length marks = omega (arith, c .loop-line .inv .1, c .pre .room) in
-    let value : made ≡ reach u past (row-at rows i) = c .is-reached-reached .ensures ∙ ap (λ k. reach u (take k marks) (row-at rows i)) (sub-zero i) in
-    (ap (build (reach u) (drop (i + 1) rows)) (take-more-set marks i made room ∙ ap (λ x. past ++ (x ∷ [])) value)
-      ∙ sym (build-more (reach u) rows past i (c .loop-line-test .taken)) ∙ c .loop-line .inv .0,
-      length-set marks i made ∙ c .loop-line .inv .1)
+    let value : made ≡ reach u past (row-at rows i) = c .is-reached-reached .ensures ∙ ap (λ k. reach u (take k marks) (row-at rows i)) (sub-zero i) in (
+      ap (build (reach u) (drop (i + 1) rows)) (take-more-set marks i made room ∙ ap (λ x. past ++ (x ∷ [])) value)
+          ∙ sym (build-more (reach u) rows past i (c .loop-line-test .taken)) ∙ c .loop-line .inv .0,
+      length-set marks i made ∙ c .loop-line .inv .1,
+    )
 
 pub returns : need.returns
 returns c =

@@ -1,5 +1,4 @@
-use mathlib.Core.Path.{_≡_, sym, ap, _∙_}
-use Rattle.level.specs.Tables.{opposed}
+use mathlib.Core.Path.{_≡_, sym, _∙_}
 use Rattle.circuit.proofs.Detects.{detected-none, detected-some, detected-vector}
 use Rattle.circuit.proofs.detection.is_detected.Needs as need
 
@@ -21,8 +20,7 @@ returns g c =
     let b = c .args .bridge in
     let x = c .index-cells-bridge .result in
     let y = c .index-cells-bridge-2 .result in
-    let read : c .opposes .result ≡ opposed (reads x) (reads y) = c .opposes .ensures .value ∙ ap (λ k. opposed k (c .read-2 .result)) (c .read .ensures) ∙ ap (opposed (reads x)) (c .read-2 .ensures) in
-    let some = detected-some reads cells (b .low) (b .high) x y (c .opposes .result) (c .if-bridge-cells .left) (c .if-bridge-cells-2 .left) (c .index-cells-bridge .is) (c .index-cells-bridge-2 .is) read in
+    let some = detected-some reads cells (b .low) (b .high) x y (c .is-opposed .result) (c .if-bridge-cells .left) (c .if-bridge-cells-2 .left) (c .index-cells-bridge .is) (c .index-cells-bridge-2 .is) (c .is-opposed .ensures) in
     record {
       value = some;
       vector = λ rows w held l h. some ∙ detected-vector reads cells (b .low) (b .high) rows w held l h;

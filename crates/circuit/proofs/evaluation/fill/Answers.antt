@@ -45,14 +45,15 @@ loop-i-again g c =
     let h = c .loop-i-test .taken in
     let room : i < length cells = omega (arith, c .loop-i .inv .2, c .pre .room) in
     let p : ℕ → Bool = λ k. is-input (row-at rows k .kind) in
-    let more = count-more i p in
-    (levels-more reads rows v cells i (c .loop-i .next) made h room (c .loop-i .inv .3) (c .line-value .ensures) ∙ c .loop-i .inv .0,
+    let more = count-more i p in (
+      levels-more reads rows v cells i (c .loop-i .next) made h room (c .loop-i .inv .3) (c .line-value .ensures) ∙ c .loop-i .inv .0,
       drop-set-lt (length rows) cells i made h ∙ c .loop-i .inv .1,
       length-set cells i made ∙ c .loop-i .inv .2,
-      elim (c .if-is-input .came)
-      [ then-is-input w ↦ let one = cond-true {A = ℕ} (p i) 1 0 (sym (w .if-is-input .ensures tt)) in omega (arith, w .next-is, more, one, c .loop-i .inv .3)
-      | else-is-input w ↦ let none = cond-false {A = ℕ} (p i) 1 0 (sym (w .if-is-input .ensures tt)) in omega (arith, w .next-is, more, none, c .loop-i .inv .3)
-      ])
+      elim (c .if-is-input .came) [
+        | then-is-input w ↦ let one = cond-true {A = ℕ} (p i) 1 0 (sym (w .if-is-input .ensures tt)) in omega (arith, w .next-is, more, one, c .loop-i .inv .3)
+        | else-is-input w ↦ let none = cond-false {A = ℕ} (p i) 1 0 (sym (w .if-is-input .ensures tt)) in omega (arith, w .next-is, more, none, c .loop-i .inv .3)
+      ],
+    )
 
 pub returns : need.returns
 returns g c =

@@ -14,7 +14,7 @@ add-total c =
 pub loop-row-again : need.loop-row-again
 loop-row-again c =
     let p : ℕ → Bool = λ k. row-at (c .args .self .now .rows .now) k .output in
-    elim (c .if-row .came)
-    [ then-row w ↦ w .total-is ∙ count-one (c .loop-row .row-index) (c .loop-row .total) p (w .if-row .taken) (c .loop-row .inv)
-    | else-row w ↦ w .total-is ∙ count-none (c .loop-row .row-index) (c .loop-row .total) p (w .if-row .left) (c .loop-row .inv)
+    elim (c .if-row .came) [
+      | then-row w ↦ w .total-is ∙ count-one (c .loop-row .row-index) (c .loop-row .total) p (w .if-row .taken) (c .loop-row .inv)
+      | else-row w ↦ w .total-is ∙ count-none (c .loop-row .row-index) (c .loop-row .total) p (w .if-row .left) (c .loop-row .inv)
     ]

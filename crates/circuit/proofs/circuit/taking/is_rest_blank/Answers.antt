@@ -22,9 +22,9 @@ loop-line-again c =
     let i = c .loop-line .line in
     let blank : ℕ → Bool = λ i. ltb i (line-count rows) || not (named (row-at rows i)) in
     let here : blank i ≡ true =
-      elim (c .else-line-count .came)
-      [ else-line-count·by·then-line-count·else-not-is-blank w ↦ or-right _ _ (sym (w .if-not-is-blank .ensures tt))
+    elim (c .else-line-count .came) [
+      | else-line-count·by·then-line-count·else-not-is-blank w ↦ or-right _ _ (sym (w .if-not-is-blank .ensures tt))
       | else-line-count·by·else-line-count w ↦ or-left _ _ (lt-ltb i (line-count rows) (omega (arith, w .if-line-count .left)))
-      ]
+    ]
     in
     each-more i blank ∙ and-from _ _ (c .loop-line .inv) here

@@ -1,0 +1,5 @@
+// A job: a netlist, a line of `%`, and vector lines.
+
+pub mod fault;
+pub mod split;
+pub mod summary;
