@@ -1,5 +1,9 @@
+pub mod Accepted
 pub mod Bytes
+pub mod Cutting
 pub mod Definitions
+pub mod Drawn
+pub mod Grammar
 pub mod Keywords
 pub mod Names
 pub mod Reading

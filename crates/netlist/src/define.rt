@@ -15,14 +15,11 @@ use crate::name::part;
 use crate::statement::Pins;
 use crate::statement::Statement;
 use circuit::kind::Kind;
+use circuit::limit::MAX_INPUTS;
+use circuit::limit::MAX_LINES;
 use circuit::row::Row;
 use circuit::row::Span;
 use circuit::row::input_count;
-
-// How many lines a netlist may define, and how many of them may be inputs.
-const MAX_LINES: usize = 1024;
-
-const MAX_INPUTS: usize = 256;
 
 // The first line with that name among the rows given.
 pub(crate) fn find(text: &[u8], rows: &[Row], name: &[u8]) -> Option<usize>

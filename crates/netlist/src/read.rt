@@ -1,7 +1,11 @@
 ghost use Prim.Native.Nat.{_≤_, _-_};
 ghost use Rattle.circuit.specs.Rows.{blank};
+ghost use Rattle.netlist.specs.Accepted.{Accepted, Lines-of, Same-with-more, Makes-circuit};
+ghost use Rattle.netlist.specs.Cutting.{CutOneWay};
 ghost use Rattle.netlist.specs.Definitions.{Gives};
-ghost use Rattle.netlist.specs.Reading.{lines-from, rows-of, output-word, marked-by, marked, reading, Marks, Answers};
+ghost use Rattle.netlist.specs.Drawn.{Drawn};
+ghost use Rattle.netlist.specs.Grammar.{Grammatical, RefusedInPlace};
+ghost use Rattle.netlist.specs.Reading.{lines-from, rows-of, output-word, marked-by, marked, with-input, reading, Marks, Answers};
 ghost use lib.ListN.{length, take, drop, replicate};
 ghost use mathlib.Core.List.{[]};
 ghost use mathlib.Core.Path.{_≡_};
@@ -82,6 +86,18 @@ fn mark_outputs(text: &[u8], rows: &mut [Row]) -> Result<(), NetlistFault>
     }
 }
 
+// What is judged after the last text line: each OUTPUT, and that there is an input.
+fn finish(text: &[u8], rows: &mut [Row]) -> Result<(), NetlistFault>
+    requires { ⌜ length (now text) ≤ 1048576 ⌝ }
+    ensures { λ r. ⌜ Marks (with-input (now (text .entry)) (marked (now (text .entry)) (now (rows .entry)) (lines-from (now (text .entry)) 0))) (now (rows .exit)) r ⌝ }
+{
+    mark_outputs(text, rows)?;
+    if input_count(rows) == 0 {
+        return Err(NetlistFault::NoInput { place: text.len() });
+    }
+    Ok(())
+}
+
 // As `read`, but the rows past the last line, and all rows of a refused text, are left as they come.
 fn read_rows(text: &[u8], rows: &mut [Row]) -> Result<usize, NetlistFault>
     ensures { λ r. ⌜ Gives (reading (now (text .entry)) (length (now (rows .entry)))) (now (rows .exit)) r ⌝ }
@@ -90,10 +106,7 @@ fn read_rows(text: &[u8], rows: &mut [Row]) -> Result<usize, NetlistFault>
         return Err(NetlistFault::TooLarge);
     }
     let count = define_lines(text, rows)?;
-    mark_outputs(text, &mut rows[0..count])?;
-    if input_count(&rows[0..count]) == 0 {
-        return Err(NetlistFault::NoInput { place: text.len() });
-    }
+    finish(text, &mut rows[0..count])?;
     Ok(count)
 }
 
@@ -105,9 +118,7 @@ fn blank_from(rows: &mut [Row], start: usize)
     rows[start..].fill(Row::BLANK);
 }
 
-// Reads the netlist: a row for each line, in order, and how many there are. The rows past the last line
-// are blank, and all of them where the text is refused.
-pub fn read(text: &[u8], rows: &mut [Row]) -> Result<usize, NetlistFault>
+fn read_or_blank(text: &[u8], rows: &mut [Row]) -> Result<usize, NetlistFault>
     ensures { λ r. ⌜ Answers (reading (now (text .entry)) (length (now (rows .entry)))) (length (now (rows .entry))) (now (rows .exit)) r ⌝ }
 {
     match read_rows(text, rows) {
@@ -120,4 +131,20 @@ pub fn read(text: &[u8], rows: &mut [Row]) -> Result<usize, NetlistFault>
             Err(fault)
         }
     }
+}
+
+// Reads the netlist: a row for each line, in order, and how many there are. The rows past the last line
+// are blank, and all of them where the text is refused. The last three clauses are laws of the form of a
+// text: how its lines are cut into tokens, which lines are well formed, and at which token one is refused.
+pub fn read(text: &[u8], rows: &mut [Row]) -> Result<usize, NetlistFault>
+    ensures answers { λ r. ⌜ Answers (reading (now (text .entry)) (length (now (rows .entry)))) (length (now (rows .entry))) (now (rows .exit)) r ⌝ }
+    ensures circuit { λ r. ⌜ Makes-circuit (now (rows .exit)) r ⌝ }
+    ensures lines { λ r. ⌜ Accepted r (λ n. Lines-of (now (text .entry)) (take n (now (rows .exit)))) ⌝ }
+    ensures drawn { λ r. ⌜ Accepted r (λ n. Drawn (now (text .entry)) (take n (now (rows .exit)))) ⌝ }
+    ensures longer { λ r. ⌜ Accepted r (λ n. Same-with-more (now (text .entry)) (length (now (rows .entry))) (take n (now (rows .exit)))) ⌝ }
+    ensures cut { λ _. ⌜ CutOneWay ⌝ }
+    ensures grammar { λ _. ⌜ Grammatical ⌝ }
+    ensures in_place { λ _. ⌜ RefusedInPlace ⌝ }
+{
+    read_or_blank(text, rows)
 }

@@ -102,6 +102,15 @@ pub(crate) fn show_limits(rt: &(impl Print + Alloc<A = Global>)) -> Result<(), A
         "INPUT(x)",
         1030,
     )?;
+    show_many(rt, "257th input after gates", 256, 3, "INPUT(j)", 300)?;
+    show_many(
+        rt,
+        "1025th line of two pins",
+        2,
+        1022,
+        "x = AND(i0000, i0001)",
+        1030,
+    )?;
     show_many(rt, "1023 rows for 1024 lines", 1, 1023, "", 1023)
 }
 
@@ -133,5 +142,6 @@ pub(crate) fn show_lengths(rt: &(impl Print + Alloc<A = Global>)) -> Result<(), 
         1_048_576,
     )?;
     show_long(rt, "longest blank text", b"", b'\n', 1_048_576)?;
+    show_long(rt, "one blank too many", b"", b' ', 1_048_577)?;
     show_long(rt, "longest word", b"INPUT(a)\n", b'x', 1_048_576)
 }
