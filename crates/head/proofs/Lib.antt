@@ -1,0 +1,5 @@
+pub mod Crosses
+pub mod Listings
+pub mod Pins
+pub mod Plants
+pub mod Standing
