@@ -8,7 +8,7 @@ use crate::bridge::Bridge;
 use level::line_value::LineValue;
 
 fn is_opposed<V: LineValue>(a: V, b: V) -> bool
-    ensures { result ≡ opposed (reads a) (reads b) }
+    ensures { result ≡ opposed (V.reads a) (V.reads b) }
 {
     a.read().opposes(b.read())
 }
@@ -16,8 +16,8 @@ fn is_opposed<V: LineValue>(a: V, b: V) -> bool
 // Whether one line of the bridge reads 0 and the other 1; none where a line has no cell. Where the
 // cells hold what a circuit reads under a vector, that vector detects the bridge exactly then.
 pub fn is_detected<V: LineValue>(bridge: Bridge, cells: &[V]) -> Option<bool>
-    ensures value { result ≡ detected_in (map reads cells.now) bridge.low bridge.high }
-    ensures vector { (rows : List Row) (w : List ℕ) → map reads (take (length rows) cells.now) ≡ levels rows w → bridge.low < length rows → bridge.high < length rows → result ≡ Known (detects_lines rows w bridge.low bridge.high) }
+    ensures value { result ≡ detected_in (map V.reads cells.now) bridge.low bridge.high }
+    ensures vector { (rows : List Row) (w : List ℕ) → map V.reads (take (length rows) cells.now) ≡ levels rows w → bridge.low < length rows → bridge.high < length rows → result ≡ Known (detects_lines rows w bridge.low bridge.high) }
 {
     if bridge.low >= cells.len() || bridge.high >= cells.len() {
         return None;

@@ -9,8 +9,8 @@ use crate::row::Row;
 use level::line_value::LineValue;
 
 fn input<V: LineValue>(byte: u8) -> V
-    requires { fits knows byte ≡ true }
-    ensures { reads result ≡ byte_level byte }
+    requires { fits V.knows byte ≡ true }
+    ensures { V.reads result ≡ byte_level byte }
 {
     V::make(byte).unwrap()
 }
@@ -19,8 +19,8 @@ fn input<V: LineValue>(byte: u8) -> V
 fn line<V: LineValue>(row: &Row, vector: &[u8], next: usize, cells: &[V]) -> V
     requires sound { row_lawful (length cells.now) row.now ≡ true }
     requires fed { is_input row.now.kind ≡ true → next < length vector.now }
-    requires fit { Fit knows vector.now }
-    ensures { reads result ≡ row_level row.now vector.now next (map reads cells.now) }
+    requires fit { Fit V.knows vector.now }
+    ensures { V.reads result ≡ row_level row.now vector.now next (map V.reads cells.now) }
 {
     if row.is_input() {
         return input(vector[next]);
@@ -36,8 +36,8 @@ pub(crate) fn fill<V: LineValue>(rows: &[Row], vector: &[u8], cells: &mut [V])
     requires sound { lawful rows.now ≡ true }
     requires room { length rows.now ≤ length cells.old }
     requires fed { length vector.now ≡ inputs rows.now }
-    requires fit { Fit knows vector.now }
-    ensures values { map reads (take (length rows.now) cells.new) ≡ levels rows.now vector.now }
+    requires fit { Fit V.knows vector.now }
+    ensures values { map V.reads (take (length rows.now) cells.new) ≡ levels rows.now vector.now }
     ensures rest { drop (length rows.now) cells.new ≡ drop (length rows.now) cells.old }
     ensures long { length cells.new ≡ length cells.old }
 {

@@ -13,7 +13,7 @@ fn is_inverting(kind: Kind) -> bool
 }
 
 fn join<V: LineValue>(kind: Kind, a: V, b: V) -> V
-    ensures { reads result ≡ join2 kind (reads a) (reads b) }
+    ensures { V.reads result ≡ join2 kind (V.reads a) (V.reads b) }
 {
     match kind {
         Kind::And | Kind::Nand => a.and(b),
@@ -26,7 +26,7 @@ fn join<V: LineValue>(kind: Kind, a: V, b: V) -> V
 // The first pin's value joined with those of the rest.
 fn join_all<V: LineValue>(kind: Kind, first: V, rest: &[u16], cells: &[V]) -> V
     requires { Below (length cells.now) rest.now }
-    ensures { reads result ≡ joined kind (reads first ∷ map (pin_level (map reads cells.now)) rest.now) }
+    ensures { V.reads result ≡ joined kind (V.reads first ∷ map (pin_level (map V.reads cells.now)) rest.now) }
 {
     let mut all = first;
     for pin in rest {
@@ -39,7 +39,7 @@ fn join_all<V: LineValue>(kind: Kind, first: V, rest: &[u16], cells: &[V]) -> V
 pub(crate) fn gate<V: LineValue>(kind: Kind, pins: &[u16], cells: &[V]) -> V
     requires some { 0 < length pins.now }
     requires below { Below (length cells.now) pins.now }
-    ensures { reads result ≡ gate_level kind (map (pin_level (map reads cells.now)) pins.now) }
+    ensures { V.reads result ≡ gate_level kind (map (pin_level (map V.reads cells.now)) pins.now) }
 {
     let all = join_all(kind, cells[pins[0] as usize], &pins[1..], cells);
     if is_inverting(kind) { all.not() } else { all }

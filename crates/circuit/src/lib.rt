@@ -1,5 +1,7 @@
 // Gate netlists by their rows, the bridges between their lines, and the one evaluation.
 
+#![tactic(auto)]
+
 pub mod bridge;
 pub mod circuit;
 mod cone;

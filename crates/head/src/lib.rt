@@ -1,5 +1,7 @@
 // What answers a measurement: heads, and adaptors over any head.
 
+#![tactic(auto)]
+
 pub mod binary;
 pub mod fault;
 pub mod head;

@@ -1,5 +1,7 @@
 // Heads in piles of adaptors, measured: one of a lab's own, a sheet, and planted bridges.
 
+#![tactic(auto)]
+
 use anyhow::Context;
 use circuit::circuit::Circuit;
 use circuit::kind::Kind;

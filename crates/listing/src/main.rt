@@ -1,5 +1,7 @@
 // Reads a job on standard input and prints the first line of its listing, or why it is refused.
 
+#![tactic(auto)]
+
 use job::fault::JobFault;
 use job::summary::{Summary, summarize};
 use std::io;

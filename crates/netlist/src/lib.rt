@@ -10,6 +10,8 @@
 // and then its length, and of the whole statement its keyword, pin count, name and pins, then the
 // limits on inputs, lines and rows; after all text lines the words of OUTPUT, and a text without inputs.
 
+#![tactic(auto)]
+
 mod define;
 pub mod fault;
 mod keyword;

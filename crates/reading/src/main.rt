@@ -1,5 +1,7 @@
 // Reads netlist texts into rows and prints what came of each.
 
+#![tactic(auto)]
+
 use circuit::kind::Kind;
 use circuit::row::{Row, Span};
 use netlist::read::read;

@@ -15,9 +15,9 @@ impl Circuit<'_> {
         vector: &[u8],
         cells: &mut [V],
     ) -> Result<(), EvaluationFault>
-        ensures outcome { result ≡ evaluation_outcome knows self.now.rows.now vector.now (length cells.old) }
-        ensures values { is_ok result ≡ true → map reads (take (length self.now.rows.now) cells.new) ≡ levels self.now.rows.now vector.now }
-        ensures readings { is_ok result ≡ true → Reads self.now.rows.now vector.now (map reads (take (length self.now.rows.now) cells.new)) }
+        ensures outcome { result ≡ evaluation_outcome V.knows self.now.rows.now vector.now (length cells.old) }
+        ensures values { is_ok result ≡ true → map V.reads (take (length self.now.rows.now) cells.new) ≡ levels self.now.rows.now vector.now }
+        ensures readings { is_ok result ≡ true → Reads self.now.rows.now vector.now (map V.reads (take (length self.now.rows.now) cells.new)) }
         ensures rest { drop (length self.now.rows.now) cells.new ≡ drop (length self.now.rows.now) cells.old }
         ensures refused { is_ok result ≡ false → cells.new ≡ cells.old }
     {
