@@ -9,7 +9,7 @@ returns-then-rest-width c =
     let w = n - 1 - i in
     let e : n - i ≡ suc w = omega (arith, c.loop-low-test.true) in
     record {
-      value = ap Some c.bridge-past.ensures ∙ sym (sought_here n c.args.number i c.loop-low.rest c.loop-low.invariant w e c.if-rest-width.true);
+      value = ap Some c.bridge_past.ensures ∙ sym (sought_here n c.args.number i c.loop-low.rest c.loop-low.invariant w e c.if-rest-width.true);
       undone = numbered n;
     }
 

@@ -8,8 +8,8 @@ use Rattle.circuit.proofs.Builds.{build_more}
 use Rattle.circuit.proofs.Laws.{lawful_row, row_below}
 use Rattle.circuit.proofs.cone.mark_cone.Goals as goal
 
-pub is-reached-reached-requires : goal.is-reached-reached-requires
-is-reached-reached-requires c =
+pub is_reached-reached-requires : goal.is_reached-reached-requires
+is_reached-reached-requires c =
     let rows = c.args.rows.now in
     let i = c.loop-line.line in
     let marks = c.loop-line.marks in
@@ -22,10 +22,10 @@ loop-line-preserved c =
     let u = c.args.source in
     let i = c.loop-line.line in
     let marks = c.loop-line.marks in
-    let made = c.is-reached-reached.result in
+    let made = c.is_reached-reached.result in
     let past : List Bool = take i marks in
     let room : i < length marks = omega (arith, c.loop-line.invariant.1, c.requires.room) in
-    let value : made ≡ reach u past (row_at rows i) = c.is-reached-reached.ensures ∙ ap (λ k. reach u (take k marks) (row_at rows i)) (sub-zero i) in (
+    let value : made ≡ reach u past (row_at rows i) = c.is_reached-reached.ensures ∙ ap (λ k. reach u (take k marks) (row_at rows i)) (sub-zero i) in (
       ap (build (reach u) (drop (i + 1) rows)) (take_more_set marks i made room ∙ ap (λ x. past ++ (x ∷ [])) value)
           ∙ sym (build_more (reach u) rows past i c.loop-line-test.true) ∙ c.loop-line.invariant.0,
       length-set marks i made ∙ c.loop-line.invariant.1,

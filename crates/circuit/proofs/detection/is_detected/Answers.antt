@@ -20,7 +20,7 @@ returns g c =
     let b = c.args.bridge in
     let x = c.index-cells-bridge.result in
     let y = c.index-cells-bridge-2.result in
-    let some = detected_some reads cells b.low b.high x y c.is-opposed.result c.if-bridge-cells.false c.if-bridge-cells-2.false c.index-cells-bridge.is c.index-cells-bridge-2.is c.is-opposed.ensures in
+    let some = detected_some reads cells b.low b.high x y c.is_opposed.result c.if-bridge-cells.false c.if-bridge-cells-2.false c.index-cells-bridge.is c.index-cells-bridge-2.is c.is_opposed.ensures in
     record {
       value = some;
       vector = λ rows w held l h. some ∙ detected_vector reads cells b.low b.high rows w held l h;

@@ -9,7 +9,7 @@ use Rattle.circuit.proofs.Builds.{levels_more}
 use Rattle.circuit.proofs.Finds.{count_le, count_more}
 use Rattle.circuit.proofs.Laws.{lawful_row, input_fed}
 use Rattle.circuit.proofs.evaluation.fill.Goals as goal
-use Rattle.circuit.proofs.evaluation.fill.Goals.{then-is-input, else-is-input}
+use Rattle.circuit.proofs.evaluation.fill.Goals.{then-is_input, else-is_input}
 
 pub line-value-requires : goal.line-value-requires
 line-value-requires g c =
@@ -23,8 +23,8 @@ line-value-requires g c =
       fit = c.requires.fit;
     }
 
-pub overflow-add-next : goal.overflow-add-next
-overflow-add-next g c =
+pub overflow_add-next : goal.overflow_add-next
+overflow_add-next g c =
     let rows = c.args.rows.now in
     let i = c.loop-i.i in
     omega (arith, c.loop-i.invariant.3, count_le i (λ k. is_input (row_at rows k).kind))
@@ -44,9 +44,9 @@ loop-i-preserved g c =
       levels_more reads rows v cells i c.loop-i.next made h room c.loop-i.invariant.3 c.line-value.ensures ∙ c.loop-i.invariant.0,
       drop-set-lt (length rows) cells i made h ∙ c.loop-i.invariant.1,
       length-set cells i made ∙ c.loop-i.invariant.2,
-      elim c.if-is-input.branch [
-        | then-is-input w ↦ let one = cond-true {A = ℕ} (p i) 1 0 (sym w.if-is-input.ensures) in omega (arith, w.next-is, more, one, c.loop-i.invariant.3)
-        | else-is-input w ↦ let none = cond-false {A = ℕ} (p i) 1 0 (sym w.if-is-input.ensures) in omega (arith, w.next-is, more, none, c.loop-i.invariant.3)
+      elim c.if-is_input.branch [
+        | then-is_input w ↦ let one = cond-true {A = ℕ} (p i) 1 0 (sym w.if-is_input.ensures) in omega (arith, w.next-is, more, one, c.loop-i.invariant.3)
+        | else-is_input w ↦ let none = cond-false {A = ℕ} (p i) 1 0 (sym w.if-is_input.ensures) in omega (arith, w.next-is, more, none, c.loop-i.invariant.3)
       ],
     )
 

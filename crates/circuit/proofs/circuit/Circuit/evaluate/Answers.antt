@@ -12,7 +12,7 @@ fill-requires g c =
     let rows = c.args.self.now.rows.now in
     let v = c.args.vector.now in
     let x = g.V.LineValue.knows in
-    let took : vector_outcome x (inputs rows) v ≡ Ok tt = taken_by x c.sees-x.result (inputs rows) c.inputs.result v tt c.sees-x.ensures c.inputs.ensures c.in-ok-check-vector.ensures in
+    let took : vector_outcome x (inputs rows) v ≡ Ok tt = taken_by x c.sees_x.result (inputs rows) c.inputs.result v tt c.sees_x.ensures c.inputs.ensures c.in_ok-check_vector.ensures in
     record {
       sound = c.args.self.now.lawful;
       room = c.if-cells-self.false;
@@ -25,7 +25,7 @@ returns g c =
     let rows = c.args.self.now.rows.now in
     let v = c.args.vector.now in
     let x = g.V.LineValue.knows in
-    let took : vector_outcome x (inputs rows) v ≡ Ok tt = taken_by x c.sees-x.result (inputs rows) c.inputs.result v tt c.sees-x.ensures c.inputs.ensures c.in-ok-check-vector.ensures in
+    let took : vector_outcome x (inputs rows) v ≡ Ok tt = taken_by x c.sees_x.result (inputs rows) c.inputs.result v tt c.sees_x.ensures c.inputs.ensures c.in_ok-check_vector.ensures in
     record {
       outcome = sym (evaluates x rows v (length c.args.cells.now) c.if-cells-self.false took);
       values = λ _. c.fill.ensures.values;

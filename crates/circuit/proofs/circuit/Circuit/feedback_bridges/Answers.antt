@@ -12,15 +12,15 @@ loop-low-init c =
     let rows = c.args.self.now.rows.now in
     (sym (ap (λ m. count m (feedback_bridge rows)) (begin_none (length rows))), refl)
 
-pub overflow-add-total : goal.overflow-add-total
-overflow-add-total c =
+pub overflow_add-total : goal.overflow_add-total
+overflow_add-total c =
     let circuit = c.args.self.now in
     let rows = circuit.rows.now in
     let n = length rows in
     let i = c.loop-low.low in
     let few = lawful_lines rows circuit.lawful in
-    let counted = cone_count rows i c.mark-cone.new.marks c.mark-cone.ensures (omega (arith, c.mark-cone.auto.marks, c.loop-low.invariant.1)) c.loop-low-test.true in
-    omega (arith, counted, c.loop-low.invariant.0, c.count-marked-total.ensures, count_le (begin n (i + 1)) (feedback_bridge rows), pairs_few n few)
+    let counted = cone_count rows i c.mark_cone.new.marks c.mark_cone.ensures (omega (arith, c.mark_cone.auto.marks, c.loop-low.invariant.1)) c.loop-low-test.true in
+    omega (arith, counted, c.loop-low.invariant.0, c.count_marked-total.ensures, count_le (begin n (i + 1)) (feedback_bridge rows), pairs_few n few)
 
 pub loop-low-preserved : goal.loop-low-preserved
 loop-low-preserved c =
@@ -28,6 +28,6 @@ loop-low-preserved c =
     let rows = circuit.rows.now in
     let i = c.loop-low.low in
     let few = lawful_lines rows circuit.lawful in
-    let long : length c.mark-cone.new.marks ≡ 1024 = omega (arith, c.mark-cone.auto.marks, c.loop-low.invariant.1) in
-    let counted = cone_count rows i c.mark-cone.new.marks c.mark-cone.ensures (omega arith) c.loop-low-test.true in
-    (omega (arith, counted, c.loop-low.invariant.0, c.count-marked-total.ensures), long)
+    let long : length c.mark_cone.new.marks ≡ 1024 = omega (arith, c.mark_cone.auto.marks, c.loop-low.invariant.1) in
+    let counted = cone_count rows i c.mark_cone.new.marks c.mark_cone.ensures (omega arith) c.loop-low-test.true in
+    (omega (arith, counted, c.loop-low.invariant.0, c.count_marked-total.ensures), long)

@@ -11,7 +11,7 @@ pub bounds-marks-high : goal.bounds-marks-high
 bounds-marks-high c =
     let circuit = c.args.self.now in
     let n = length circuit.rows.now in
-    let found = bridge_found n c.args.number c.in-ok-low.field-0 c.in-ok-low.ensures in
+    let found = bridge_found n c.args.number c.in_ok-low.field-0 c.in_ok-low.ensures in
     omega (arith, found.2, (numbered n).within c.args.number found.0, lawful_lines circuit.rows.now circuit.lawful)
 
 pub returns : goal.returns
@@ -20,8 +20,8 @@ returns c =
     let rows = circuit.rows.now in
     let β = c.args.number in
     let n = length rows in
-    let found = bridge_found n β c.in-ok-low.field-0 c.in-ok-low.ensures in
-    let read = feedback_read rows β c.in-ok-low.field-0 c.mark-cone.new.marks c.in-ok-low.ensures c.mark-cone.ensures in
+    let found = bridge_found n β c.in_ok-low.field-0 c.in_ok-low.ensures in
+    let read = feedback_read rows β c.in_ok-low.field-0 c.mark_cone.new.marks c.in_ok-low.ensures c.mark_cone.ensures in
     let decided = feedback_decides rows circuit.lawful (low n β) (high n β) ((numbered n).ordered β found.0) ((numbered n).within β found.0) in
     record {
       outcome = feedback_answer rows β _ found.0 read;

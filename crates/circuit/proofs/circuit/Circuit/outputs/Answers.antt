@@ -4,8 +4,8 @@ use Rattle.circuit.proofs.Finds.{count_le, count_one, count_none}
 use Rattle.circuit.proofs.circuit.Circuit.outputs.Goals as goal
 use Rattle.circuit.proofs.circuit.Circuit.outputs.Goals.{then-row, else-row}
 
-pub overflow-add-total : goal.overflow-add-total
-overflow-add-total c =
+pub overflow_add-total : goal.overflow_add-total
+overflow_add-total c =
     omega (arith, count_le c.loop-row.row-index (λ k. (row_at c.args.self.now.rows.now k).output))
 
 pub loop-row-preserved : goal.loop-row-preserved

@@ -6,7 +6,7 @@ use Rattle.circuit.proofs.circuit.Circuit.over.Goals as goal
 pub returns : goal.returns
 returns c =
     let rows = c.args.rows.now in
-    let value = c.take-lines.ensures in
+    let value = c.take_lines.ensures in
     record {
       value = value;
       lawful = subst Lawful (sym value) (taken_lawful rows);

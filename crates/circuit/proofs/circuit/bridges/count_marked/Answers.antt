@@ -3,8 +3,8 @@ use Rattle.circuit.proofs.Finds.{count_le, count_one, count_none}
 use Rattle.circuit.proofs.circuit.bridges.count_marked.Goals as goal
 use Rattle.circuit.proofs.circuit.bridges.count_marked.Goals.{then-mark, else-mark}
 
-pub overflow-add-marked : goal.overflow-add-marked
-overflow-add-marked c =
+pub overflow_add-marked : goal.overflow_add-marked
+overflow_add-marked c =
     omega (arith, count_le c.loop-mark.mark-index (λ k. get_or c.args.marks.now k false))
 
 pub loop-mark-preserved : goal.loop-mark-preserved

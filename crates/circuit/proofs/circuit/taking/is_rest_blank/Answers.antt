@@ -3,13 +3,13 @@ use Rattle.std.proofs.lemmas.Bool.{and_from, or_from, or_left, or_right, le-ltb,
 use Rattle.circuit.specs.Rows.{named, row_at, line_count}
 use Rattle.circuit.proofs.Finds.{each_more, each_fails}
 use Rattle.circuit.proofs.circuit.taking.is_rest_blank.Goals as goal
-use Rattle.circuit.proofs.circuit.taking.is_rest_blank.Goals.{else-line-count-via-then-line-count+else-not-is-blank, else-line-count-via-else-line-count}
+use Rattle.circuit.proofs.circuit.taking.is_rest_blank.Goals.{else-line-count-via-then-line-count+else-not-is_blank, else-line-count-via-else-line-count}
 
-pub returns-then-not-is-blank : goal.returns-then-not-is-blank
-returns-then-not-is-blank c =
+pub returns-then-not-is_blank : goal.returns-then-not-is_blank
+returns-then-not-is_blank c =
     let rows = c.args.rows.now in
     let blank : ℕ → Bool = λ i. ltb i (line_count rows) || not (named (row_at rows i)) in
-    sym (each_fails (length rows) blank c.loop-line.line c.loop-line-test.true (or_from _ _ (le-ltb _ _ (omega arith)) (sym c.if-not-is-blank.ensures)))
+    sym (each_fails (length rows) blank c.loop-line.line c.loop-line-test.true (or_from _ _ (le-ltb _ _ (omega arith)) (sym c.if-not-is_blank.ensures)))
 
 pub loop-line-preserved : goal.loop-line-preserved
 loop-line-preserved c =
@@ -18,7 +18,7 @@ loop-line-preserved c =
     let blank : ℕ → Bool = λ i. ltb i (line_count rows) || not (named (row_at rows i)) in
     let here : blank i ≡ true =
     elim c.else-line-count.branch [
-      | else-line-count-via-then-line-count+else-not-is-blank w ↦ or_right _ _ (sym w.if-not-is-blank.ensures)
+      | else-line-count-via-then-line-count+else-not-is_blank w ↦ or_right _ _ (sym w.if-not-is_blank.ensures)
       | else-line-count-via-else-line-count w ↦ or_left _ _ (lt-ltb i (line_count rows) (omega (arith, w.if-line-count.false)))
     ]
     in

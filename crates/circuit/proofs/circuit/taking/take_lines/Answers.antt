@@ -3,7 +3,7 @@ use Rattle.circuit.specs.Rows.{named, row_at}
 use Rattle.circuit.proofs.Finds.{first_le}
 use Rattle.circuit.proofs.circuit.taking.take_lines.Goals as goal
 
-pub slice-bounds-lines-end : goal.slice-bounds-lines-end
-slice-bounds-lines-end c =
+pub slice_bounds-lines-end : goal.slice_bounds-lines-end
+slice_bounds-lines-end c =
     let rows = c.args.rows.now in
-    omega (arith, c.line-count-count.ensures, first_le (length rows) (λ i. not (named (row_at rows i))))
+    omega (arith, c.line_count-count.ensures, first_le (length rows) (λ i. not (named (row_at rows i))))
