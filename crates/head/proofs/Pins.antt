@@ -1,6 +1,6 @@
 -- Measuring through a pin map, and taking one.
 use Rattle.std.proofs.Common.{◌≡◌, ℕ, ◌<◌, ◌≤◌, Bool, true, List, length, get_or, take, drop, Ok, Err, Result, sym, refl, ap, ◌∙◌, subst, inl, inr, arith}
-use Rattle.std.proofs.lemmas.List.{length-take-le}
+use Rattle.std.proofs.lemmas.List.{length-take-le, take_all}
 use Rattle.std.proofs.lemmas.Bool.{cases_Bool, cases_lt, cases_eq, cond-true, cond-false, eq-eqb, ne_eqb, lt-ltb, le-ltb, and_from}
 use Rattle.head.specs.declared.fault.HeadFault.{HeadFault}
 use Rattle.head.specs.declared.fault.HeadFault.TheVariants.{NotPermutation}
@@ -84,7 +84,7 @@ placed_front w es old new p t d =
       carries = carries_front w es new p front;
       straight = straight_standing w es new p.long front;
       undone = undone_front w es new p front;
-      back = λ fs q. back_front w es new p front fs fs q (take_all w fs q.long);
+      back = λ fs q. back_front w es new p front fs fs q (take_all w fs (omega (arith, q.long)));
       back_over = back_front w es new p front;
     }
 

@@ -7,11 +7,11 @@ loop-i-preserved c =
     let map = c.args.map.now in
     let cells = c.loop-i.cells in
     let i = c.loop-i.i in
-    let e = c.entry-for.result in
+    let e = c.entry_for.result in
     let room : i < length cells = omega (arith, c.requires.room, c.loop-i.auto.cells) in (
       take_more_set cells i e room
           ∙ ap (λ t. t ++ (e ∷ [])) c.loop-i.invariant.0
-          ∙ ap (λ x. take i map ++ (x ∷ [])) c.entry-for.ensures
+          ∙ ap (λ x. take i map ++ (x ∷ [])) c.entry_for.ensures
           ∙ sym (take_more map i 0 c.loop-i-test.true),
       drop-set-lt (i + 1) cells i e (omega arith)
           ∙ sym (drop-drop 1 i cells)

@@ -6,14 +6,14 @@ use Rattle.head.specs.Meaning.{binary}
 use Rattle.head.proofs.Plants.{asked_refused, asked_detects, told}
 use Rattle.head.proofs.planted.ask.Goals as goal
 
-pub returns-then-is-err : goal.returns-then-is-err
-returns-then-is-err g c =
+pub returns-then-is_err : goal.returns-then-is_err
+returns-then-is_err g c =
     let rows = c.args.circuit.now.rows.now in
     let v = c.args.vector.now in
     let x = g.V.LineValue.knows in
     let long : length v ≡ inputs rows = omega (arith, c.inputs.ensures) in
-    let two : binary v ≡ true = sym c.if-not-is-binary.ensures in
-    let off : is_ok (evaluation_outcome x rows v (length c.args.cells.now)) ≡ false = ap is_ok (sym c.evaluate.ensures.outcome) ∙ c.if-is-err.ensures.negation in
+    let two : binary v ≡ true = sym c.if-not-is_binary.ensures in
+    let off : is_ok (evaluation_outcome x rows v (length c.args.cells.now)) ≡ false = ap is_ok (sym c.evaluate.ensures.outcome) ∙ c.if-is_err.ensures.negation in
     asked_refused x rows c.args.bridge (length c.args.cells.now) v long two off
 
 pub returns-in-Some : goal.returns-in-Some
@@ -25,8 +25,8 @@ returns-in-Some g c =
     let x = g.V.LineValue.knows in
     let b = c.in-Ok.lines in
     let long : length v ≡ inputs rows = omega (arith, c.inputs.ensures) in
-    let two : binary v ≡ true = sym c.if-not-is-binary.ensures in
-    let done : is_ok c.evaluate.result ≡ true = c.if-is-err.ensures.negation in
+    let two : binary v ≡ true = sym c.if-not-is_binary.ensures in
+    let done : is_ok c.evaluate.result ≡ true = c.if-is_err.ensures.negation in
     let on : is_ok (evaluation_outcome x rows v (length c.args.cells.now)) ≡ true = ap is_ok (sym c.evaluate.ensures.outcome) ∙ done in
     let found = bridge_found n β b c.in-Ok.ensures in
     let order = (numbered n).ordered β found.0 in
@@ -40,7 +40,7 @@ returns-in-None g c =
     let n = length rows in
     let β = c.args.bridge in
     let b = c.in-Ok.lines in
-    let done : is_ok c.evaluate.result ≡ true = c.if-is-err.ensures.negation in
+    let done : is_ok c.evaluate.result ≡ true = c.if-is_err.ensures.negation in
     let found = bridge_found n β b c.in-Ok.ensures in
     let order = (numbered n).ordered β found.0 in
     let within = (numbered n).within β found.0 in

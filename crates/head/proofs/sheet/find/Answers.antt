@@ -6,12 +6,12 @@ use Rattle.head.specs.Sheets.{answers}
 use Rattle.head.proofs.Listings.{row_inside, answers_at, finds, finds_none}
 use Rattle.head.proofs.sheet.find.Goals as goal
 
-pub is-answer-requires : goal.is-answer-requires
-is-answer-requires c =
+pub is_answer-requires : goal.is_answer-requires
+is_answer-requires c =
     omega (arith, row_inside c.args.width c.args.rows.now c.loop-row.row c.loop-row-test.true)
 
-pub overflow-add-start : goal.overflow-add-start
-overflow-add-start c =
+pub overflow_add-start : goal.overflow_add-start
+overflow_add-start c =
     let inside : c.loop-row.start + c.args.width < length c.args.rows.now =
     omega (arith, row_inside c.args.width c.args.rows.now c.loop-row.row c.loop-row-test.true) in
     search rules
@@ -20,20 +20,20 @@ pub bounds-rows-start : goal.bounds-rows-start
 bounds-rows-start c =
     omega (arith, row_inside c.args.width c.args.rows.now c.loop-row.row c.loop-row-test.true)
 
-pub returns-then-is-answer : goal.returns-then-is-answer
-returns-then-is-answer c =
+pub returns-then-is_answer : goal.returns-then-is_answer
+returns-then-is_answer c =
     let w = c.args.width in
     let rows = c.args.rows.now in
     let v = c.args.vector.now in
     let on : answers w rows v c.loop-row.row ≡ true =
-    answers_at w rows v c.loop-row.row c.loop-row.start true c.loop-row.invariant.0 c.if-is-answer.ensures in
+    answers_at w rows v c.loop-row.row c.loop-row.start true c.loop-row.invariant.0 c.if-is_answer.ensures in
     let same : ℕ → Result Reading HeadFault = λ s. Ok (cond (eqb (get_or rows (s + w) 0) 72) High Low) in
     ap Ok c.reading.ensures
     ∙ ap same c.loop-row.invariant.0
     ∙ sym (finds w rows v c.loop-row.row c.loop-row-test.true on c.loop-row.invariant.1)
 
-pub overflow-add-start-in-loop-row-2 : goal.overflow-add-start-in-loop-row-2
-overflow-add-start-in-loop-row-2 c =
+pub overflow_add-start-in-loop-row-2 : goal.overflow_add-start-in-loop-row-2
+overflow_add-start-in-loop-row-2 c =
     let inside : c.loop-row.start + c.args.width < length c.args.rows.now =
     omega (arith, row_inside c.args.width c.args.rows.now c.loop-row.row c.loop-row-test.true) in
     search rules

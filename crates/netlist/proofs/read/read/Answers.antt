@@ -10,9 +10,9 @@ pub returns : goal.returns
 returns c =
     let text = c.args.text.now in
     let room = length c.args.rows.now in
-    let rows = c.read-or-blank.new.rows in
-    let r = c.read-or-blank.result in
-    let answers = c.read-or-blank.ensures in
+    let rows = c.read_or_blank.new.rows in
+    let r = c.read_or_blank.result in
+    let answers = c.read_or_blank.ensures in
     record {
       answers = answers;
       circuit = makes_circuit text room rows r answers;

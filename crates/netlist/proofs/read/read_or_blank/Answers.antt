@@ -5,9 +5,9 @@ use Rattle.netlist.proofs.read.read_or_blank.Goals as goal
 pub returns-in-Ok : goal.returns-in-Ok
 returns-in-Ok c =
     let gives = c.in-Ok.ensures in
-    let long : length c.read-rows.new.rows ≡ length c.args.rows.now = omega arith in (
-      gives.0 ∙ ap Ok (sym c.blank-from.ensures.front),
+    let long : length c.read_rows.new.rows ≡ length c.args.rows.now = omega arith in (
+      gives.0 ∙ ap Ok (sym c.blank_from.ensures.front),
       omega (arith, gives.1, long),
       gives.2,
-      c.blank-from.ensures.rest ∙ ap (λ n. replicate (n - c.in-Ok.count) blank) long,
+      c.blank_from.ensures.rest ∙ ap (λ n. replicate (n - c.in-Ok.count) blank) long,
     )

@@ -7,37 +7,37 @@ use Rattle.netlist.specs.Reading.{lines_from, marked, with_input, with_marks, re
 use Rattle.netlist.proofs.Turns.{reading_within}
 use Rattle.netlist.proofs.read.read_rows.Goals as goal
 
-pub returns-then-text-gt-MAX-TEXT : goal.returns-then-text-gt-MAX-TEXT
+pub returns-then-text-gt-MAX_TEXT : goal.returns-then-text-gt-MAX_TEXT
 unfolding reading
-returns-then-text-gt-MAX-TEXT c = cond-false _ _ _ (lt-leb (length c.args.text.now) 1048576 c.if-text-gt-MAX-TEXT.true)
+returns-then-text-gt-MAX_TEXT c = cond-false _ _ _ (lt-leb (length c.args.text.now) 1048576 c.if-text-gt-MAX_TEXT.true)
 
-pub returns-in-err-count : goal.returns-in-err-count
-returns-in-err-count c =
+pub returns-in_err-count : goal.returns-in_err-count
+returns-in_err-count c =
     let text = c.args.text.now in
-    let p = err_from_is_err_and c.from-residual.result c.from-residual.ensures.1 in
-    rw (p.1, p.2) (reading_within text (length c.args.rows.now) c.if-text-gt-MAX-TEXT.false ∙ ap (with_marks text) c.in-err-count.ensures)
+    let p = err_from_is_err_and c.from_residual.result c.from_residual.ensures.1 in
+    rw (p.1, p.2) (reading_within text (length c.args.rows.now) c.if-text-gt-MAX_TEXT.false ∙ ap (with_marks text) c.in_err-count.ensures)
 
-pub returns-in-err-finish : goal.returns-in-err-finish
-returns-in-err-finish c =
+pub returns-in_err-finish : goal.returns-in_err-finish
+returns-in_err-finish c =
     let text = c.args.text.now in
-    let n = c.in-ok-count.count in
+    let n = c.in_ok-count.count in
     let zero : n - 0 ≡ n = omega arith in
-    let marks = ap (λ k. with_input text (marked text (take k c.define-lines.new.rows) (lines_from text 0))) (sym zero) ∙ c.in-err-finish.ensures in
-    let p = err_from_is_err_and c.from-residual-in-err-finish.result c.from-residual-in-err-finish.ensures.1 in
+    let marks = ap (λ k. with_input text (marked text (take k c.define_lines.new.rows) (lines_from text 0))) (sym zero) ∙ c.in_err-finish.ensures in
+    let p = err_from_is_err_and c.from_residual-in_err-finish.result c.from_residual-in_err-finish.ensures.1 in
     rw (p.1, p.2)
-    (reading_within text (length c.args.rows.now) c.if-text-gt-MAX-TEXT.false ∙ ap (with_marks text) c.in-ok-count.ensures.0 ∙ marks)
+    (reading_within text (length c.args.rows.now) c.if-text-gt-MAX_TEXT.false ∙ ap (with_marks text) c.in_ok-count.ensures.0 ∙ marks)
 
 pub returns : goal.returns
 returns c =
     let text = c.args.text.now in
-    let n = c.in-ok-count.count in
-    let defined = c.define-lines.new.rows in
+    let n = c.in_ok-count.count in
+    let defined = c.define_lines.new.rows in
     let rows = c.finish.new.rows in
     let zero : n - 0 ≡ n = omega arith in
     let long : length rows ≡ n - 0 = search rules in
-    let marks = ap (λ k. with_input text (marked text (take k defined) (lines_from text 0))) (sym zero) ∙ c.in-ok-finish.ensures in (
-      reading_within text (length c.args.rows.now) c.if-text-gt-MAX-TEXT.false ∙ ap (with_marks text) c.in-ok-count.ensures.0 ∙ marks
+    let marks = ap (λ k. with_input text (marked text (take k defined) (lines_from text 0))) (sym zero) ∙ c.in_ok-finish.ensures in (
+      reading_within text (length c.args.rows.now) c.if-text-gt-MAX_TEXT.false ∙ ap (with_marks text) c.in_ok-count.ensures.0 ∙ marks
           ∙ ap Ok (sym (take_at rows (post_of 0 (n - 0) defined) n (long ∙ zero))),
       omega (arith, length-append rows (post_of 0 (n - 0) defined), long),
-      c.in-ok-count.ensures.2,
+      c.in_ok-count.ensures.2,
     )

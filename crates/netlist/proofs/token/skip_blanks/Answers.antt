@@ -4,7 +4,7 @@ use Rattle.netlist.proofs.token.skip_blanks.Goals as goal
 
 pub loop-start-preserved : goal.loop-start-preserved
 loop-start-preserved c =
-    let blank = sym c.if-is-blank.ensures in (
+    let blank = sym c.if-is_blank.ensures in (
       sym (at_blank c.args.text.now c.loop-start.start c.loop-start-test.true blank) ∙ c.loop-start.invariant.0,
       omega arith,
       omega arith,
@@ -12,13 +12,13 @@ loop-start-preserved c =
     )
 
 -- a byte that is no blank
-pub returns-else-is-blank : goal.returns-else-is-blank
-returns-else-is-blank c =
+pub returns-else-is_blank : goal.returns-else-is_blank
+returns-else-is_blank c =
     record {
       after = (omega arith, omega arith);
       tokens = c.loop-start.invariant.0;
       passes = c.loop-start.invariant.3;
-      solid = λ h. sym c.if-is-blank.ensures;
+      solid = λ h. sym c.if-is_blank.ensures;
     }
 
 -- the text's end

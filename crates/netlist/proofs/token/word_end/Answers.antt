@@ -33,7 +33,7 @@ loop-end-preserved c =
     let text = c.args.text.now in
     let i = c.args.start in
     let j = c.loop-end.end in
-    let more = sym c.if-is-word-byte.ensures in (
+    let more = sym c.if-is_word_byte.ensures in (
       ap (λ w. tokens w (drop (j + 1) text) (j + 1)) (between_more text i j 0 (omega arith) c.loop-end-test.true)
           ∙ sym (at_word (between i j text) text j c.loop-end-test.true more) ∙ c.loop-end.invariant.0,
       omega arith,
@@ -41,9 +41,9 @@ loop-end-preserved c =
       pass_word text j c.loop-end-test.true more ∙ c.loop-end.invariant.3,
     )
 
-pub returns-else-is-word-byte : goal.returns-else-is-word-byte
-returns-else-is-word-byte c =
-    ended c.args.text.now c.args.start c.loop-end.end (omega arith) (omega arith) c.loop-end.invariant.0 c.loop-end.invariant.3 (λ h. sym c.if-is-word-byte.ensures)
+pub returns-else-is_word_byte : goal.returns-else-is_word_byte
+returns-else-is_word_byte c =
+    ended c.args.text.now c.args.start c.loop-end.end (omega arith) (omega arith) c.loop-end.invariant.0 c.loop-end.invariant.3 (λ h. sym c.if-is_word_byte.ensures)
 
 pub returns-after-loop-end : goal.returns-after-loop-end
 returns-after-loop-end c =

@@ -6,6 +6,6 @@ pub returns : goal.returns
 returns g c =
     record {
       kept = refl;
-      straight = c.straight.ensures.own_val;
-      same = first_standing (g.H.Head.meaning c.args.below) c.straight.result c.straight.ensures.long c.straight.ensures.own_val;
+      straight = c.straight.ensures.own;
+      same = first_standing (g.H.Head.meaning c.args.below) c.straight.result c.straight.ensures.long c.straight.ensures.own;
     }

@@ -6,7 +6,7 @@ use Rattle.head.proofs.pin_map.PinMap.set.Goals as goal
 pub store-requires : goal.store-requires
 store-requires g c =
     let w = (g.H.Head.meaning c.args.self.now.below).width in
-    let narrow : w ≤ 256 = c.judge-over.ensures.narrow in
+    let narrow : w ≤ 256 = c.judge_over.ensures.narrow in
     let permutes : Permutes w c.args.map.now = c.in-Ok.ensures.judged in
     record {
       room = search rules;

@@ -13,7 +13,7 @@ returns g c =
     let n = c.width-width.result in
     let cells = c.scatter.new.cells in
     let long : length v ≡ m.width = c.if-vector-width.false ∙ c.width-width.ensures.value in
-    let bits : binary v ≡ true = sym c.if-not-is-binary.ensures in
+    let bits : binary v ≡ true = sym c.if-not-is_binary.ensures in
     let given : take (n - 0) cells ≡ crossed m.width s.map v =
     cells_crossed m.width n s.map v cells c.width-width.ensures.value c.width-width.ensures.lawful.narrow c.scatter.ensures in
     record {

@@ -4,7 +4,7 @@ use Rattle.head.proofs.sheet.Sheet.new.Goals as goal
 
 pub returns : goal.returns
 returns c =
-    let r = c.if-is-narrow.result in
+    let r = c.if-is_narrow.result in
     let takes : c.args.width ≤ 256 → (r.0 ≡ c.args.width) × (r.1.0.now ≡ c.args.rows.now) = search rules in
     record {
       takes = takes;
