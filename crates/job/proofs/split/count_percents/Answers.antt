@@ -4,8 +4,8 @@ use Rattle.circuit.proofs.Finds.{count_le, count_one, count_none}
 use Rattle.job.proofs.split.count_percents.Goals as goal
 use Rattle.job.proofs.split.count_percents.Goals.{then-byte-eq37, else-byte-eq37}
 
-pub overflow-add-total : goal.overflow-add-total
-overflow-add-total c = omega (arith, count_le c.loop-byte.byte-index (λ k. eqb (get_or c.args.line.now k 0) 37))
+pub overflow_add-total : goal.overflow_add-total
+overflow_add-total c = omega (arith, count_le c.loop-byte.byte-index (λ k. eqb (get_or c.args.line.now k 0) 37))
 
 pub loop-byte-preserved : goal.loop-byte-preserved
 loop-byte-preserved c =

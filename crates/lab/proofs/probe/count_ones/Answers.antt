@@ -4,8 +4,8 @@ use Rattle.circuit.proofs.Finds.{count_le, count_one, count_none}
 use Rattle.lab.proofs.probe.count_ones.Goals as goal
 use Rattle.lab.proofs.probe.count_ones.Goals.{then-byte-eq49, else-byte-eq49}
 
-pub overflow-add-ones : goal.overflow-add-ones
-overflow-add-ones c = omega (arith, count_le c.loop-byte.byte-index (λ k. eqb (get_or c.args.vector.now k 0) 49))
+pub overflow_add-ones : goal.overflow_add-ones
+overflow_add-ones c = omega (arith, count_le c.loop-byte.byte-index (λ k. eqb (get_or c.args.vector.now k 0) 49))
 
 pub loop-byte-preserved : goal.loop-byte-preserved
 loop-byte-preserved c =
