@@ -1,6 +1,6 @@
 -- Each line of an accepted text comes from a text line, and its row keeps what that text line says.
 use Rattle.std.proofs.Common.{◌≡◌, ℕ, suc, ◌+◌, ◌<◌, ◌≤◌, true, false, leb, List, [], ◌∷◌, ◌++◌, length, get_or, set, replicate, is_some, Some, None, Ok, Err, Option, Result, sym, refl, ap, ◌∙◌, subst, inl, inr, arith, length-set, MatchOption}
-use Rattle.std.specs.List.{AllByRecursion as All}
+use Rattle.std.specs.List.{AllByRecursion}
 use Rattle.std.proofs.lemmas.List.{length-take, length_push, get_or_push, get_or_append_left, get_or-take, get_or-replicate, get_or-set_same, get_or-set_other}
 use Rattle.std.proofs.lemmas.Bool.{cond_both, both_ways, cases_eq, cases_lt}
 use Rattle.circuit.specs.Kinds.{takes, is_input, is_gate}
@@ -285,7 +285,7 @@ module _ (text : List ℕ) (room : ℕ) (all : List (List Tok)) where
   next_draws n ls (Ok more) go a = go more a
   next_draws n ls (Err f) go a = tt
 
-  rows_drawn : (ls : List (List Tok)) → All (All (Before (length text))) ls → (n : ℕ) (rows : List Row) → Left all [] n ls → DrawnSoFar text all n rows → Accepted (rows_of text room rows ls) (DrawnSoFar text all (length all))
+  rows_drawn : (ls : List (List Tok)) → AllByRecursion (AllByRecursion (Before (length text))) ls → (n : ℕ) (rows : List Row) → Left all [] n ls → DrawnSoFar text all n rows → Accepted (rows_of text room rows ls) (DrawnSoFar text all (length all))
   unfolding rows_of next_rows
   rows_drawn [] a n rows l d =
       let same : n ≡ length all = omega (arith, l.long) in

@@ -1,6 +1,6 @@
 -- What each statement and each mark of an accepted text does to the rows.
 use Rattle.std.proofs.Common.{◌≡◌, ℕ, ◌+◌, ◌<◌, ◌≤◌, true, false, cond, eqb, leb, List, [], ◌∷◌, ◌++◌, length, get_or, take, set, replicate, is_some, IfSome, Some, None, Ok, Err, codes, Option, Result, sym, refl, subst, inl, inr, arith, length-set}
-use Rattle.std.specs.List.{AllByRecursion as All}
+use Rattle.std.specs.List.{AllByRecursion}
 use Rattle.std.specs.Str.{bytes_eq}
 use Rattle.std.proofs.lemmas.List.{length-take, get_or-take, get_or-set_same, get_or-set_other}
 use Rattle.std.proofs.lemmas.Bool.{cond_both, and_parts, leb-true, leb-false, eqb-true, both_ways, cases_eq}
@@ -187,7 +187,7 @@ unfolding next_rows
 next_rows_keep text room P ls (Ok more) go a = go more a
 next_rows_keep text room P ls (Err f) go a = tt
 
-pub rows_keep : (text : List ℕ) (room : ℕ) (P : List Row → Type 0) → ((rows : List Row) (row : Row) → length rows < 1024 → Fresh text rows row → P rows → P (rows ++ row ∷ [])) → (ls : List (List Tok)) → All (All (Before (length text))) ls → (rows : List Row) → P rows → Accepted (rows_of text room rows ls) P
+pub rows_keep : (text : List ℕ) (room : ℕ) (P : List Row → Type 0) → ((rows : List Row) (row : Row) → length rows < 1024 → Fresh text rows row → P rows → P (rows ++ row ∷ [])) → (ls : List (List Tok)) → AllByRecursion (AllByRecursion (Before (length text))) ls → (rows : List Row) → P rows → Accepted (rows_of text room rows ls) P
 unfolding rows_of next_rows
 rows_keep text room P grow [] a rows p = p
 rows_keep text room P grow (l ∷ ls) a rows p =

@@ -1,6 +1,6 @@
 -- A text line is refused at the first token that is out of form or too long.
 use Rattle.std.proofs.Common.{◌≡◌, ℕ, ◌<◌, ◌≤◌, leb, ◌⊎◌, List, [], ◌∷◌, ◌++◌, length, Ok, Err, Result, sym, refl, ap, ◌∙◌, subst, inl, inr, ⊎_elim, append_assoc, arith}
-use Rattle.std.specs.List.{AllByRecursion as All}
+use Rattle.std.specs.List.{AllByRecursion}
 use Rattle.std.proofs.ByRecursion.{All-push, All-append}
 use Rattle.std.proofs.lemmas.Bool.{cond_both}
 use Rattle.circuit.specs.declared.row.Span.{Span}
@@ -76,7 +76,7 @@ abbrev Refused : List Tok → TokenFault → Type 0
 Refused ts (OutOfForm p) = Misfit ts p
 Refused ts (TooLong p) = Overlong ts p
 
-misfit_here : (pre : List Tok) (s : State) (t : Tok) (ts : List Tok) (p : ℕ) → Reached Short pre s → All Fair pre → Led pre s → stepped s t ≡ Err (OutOfForm p) → tok_place t ≡ p → Misfit (pre ++ t ∷ ts) p
+misfit_here : (pre : List Tok) (s : State) (t : Tok) (ts : List Tok) (p : ℕ) → Reached Short pre s → AllByRecursion Fair pre → Led pre s → stepped s t ≡ Err (OutOfForm p) → tok_place t ≡ p → Misfit (pre ++ t ∷ ts) p
 misfit_here pre s t ts p r fair led e stands =
     record {
       before = pre;
@@ -89,7 +89,7 @@ misfit_here pre s t ts p r fair led e stands =
       goes_no_further = λ v. subst InForm (led_on pre s t v.0 led ∙ ap (then_said v.0) e) (in_form v.2);
     }
 
-long_here : (pre : List Tok) (t : Tok) (ts : List Tok) (p : ℕ) → All Fair pre → Long pre t p → Overlong (pre ++ t ∷ ts) p
+long_here : (pre : List Tok) (t : Tok) (ts : List Tok) (p : ℕ) → AllByRecursion Fair pre → Long pre t p → Overlong (pre ++ t ∷ ts) p
 long_here pre t ts p fair h =
     record {
       before = pre;
@@ -108,13 +108,13 @@ same_fault : (f g : TokenFault) → ◌≡◌ {A = Result Statement TokenFault} 
 same_fault f g e = cc
 
 -- the token is at fault, or else one after it
-found : (pre : List Tok) (s : State) (t : Tok) (ts : List Tok) (f : TokenFault) (r : Result Step TokenFault) → stepped s t ≡ r → After pre t r → Reached Short pre s → All Fair pre → Led pre s → then_said ts r ≡ Err f → ((n : State) → stepped s t ≡ Ok (To n) → Reached Short (pre ++ t ∷ []) n → Fair t → said n ts ≡ Err f → Refused ((pre ++ t ∷ []) ++ ts) f) → Refused (pre ++ t ∷ ts) f
+found : (pre : List Tok) (s : State) (t : Tok) (ts : List Tok) (f : TokenFault) (r : Result Step TokenFault) → stepped s t ≡ r → After pre t r → Reached Short pre s → AllByRecursion Fair pre → Led pre s → then_said ts r ≡ Err f → ((n : State) → stepped s t ≡ Ok (To n) → Reached Short (pre ++ t ∷ []) n → Fair t → said n ts ≡ Err f → Refused ((pre ++ t ∷ []) ++ ts) f) → Refused (pre ++ t ∷ ts) f
 found pre s t ts f (Ok (To n)) is a r fair led e go = subst (λ us. Refused us f) (append_assoc pre (t ∷ []) ts) (go n is a.0 a.1 e)
 found pre s t ts f (Ok (Whole x)) is a r fair led e go = absurd (ok_not_err x f e)
 found pre s t ts f (Err (OutOfForm p)) is a r fair led e go = subst (λ g. Refused (pre ++ t ∷ ts) g) (same_fault _ _ e) (misfit_here pre s t ts p r fair led is a)
 found pre s t ts f (Err (TooLong p)) is a r fair led e go = subst (λ g. Refused (pre ++ t ∷ ts) g) (same_fault _ _ e) (long_here pre t ts p fair a)
 
-refused : (pre : List Tok) (s : State) (f : TokenFault) {ts : List Tok} → Reached Short pre s → All Fair pre → Led pre s → OneEnd ts → said s ts ≡ Err f → Refused (pre ++ ts) f
+refused : (pre : List Tok) (s : State) (f : TokenFault) {ts : List Tok} → Reached Short pre s → AllByRecursion Fair pre → Led pre s → OneEnd ts → said s ts ≡ Err f → Refused (pre ++ ts) f
 refused pre s f r fair led (only_end {p = p}) e =
     let t = end p in
     found pre s t [] f (stepped s t) refl (step r t) r fair led (sym (said_step s t []) ∙ e) (λ n is q h g. absurd h)
@@ -153,7 +153,7 @@ less_viable a b v = (b ++ v.0, v.1, rw append_assoc at v.2)
 next_viable : (a b e : List Tok) (t : Tok) → b ≡ a ++ t ∷ e → Viable b → Viable (a ++ t ∷ [])
 next_viable a b e t h v = less_viable (a ++ t ∷ []) e (subst Viable (h ∙ sym (append_assoc a (t ∷ []) e)) v)
 
-middle : {X : Type 0} (P : X → Type 0) (a b : List X) (x : X) → All P (a ++ x ∷ b) → P x
+middle : {X : Type 0} (P : X → Type 0) (a b : List X) (x : X) → AllByRecursion P (a ++ x ∷ b) → P x
 middle P [] b x h = h.0
 middle P (y ∷ a) b x h = middle P a b x h.1
 
@@ -167,9 +167,9 @@ one_misfit ts p q m n =
     (apart m.before m.after n.before n.after m.misfit n.misfit (sym m.splits ∙ n.splits))
 
 -- a word among fair tokens is not too long
-not_fair : (ts a e : List Tok) (w : List ℕ) (p : ℕ) → All Fair ts → ts ≡ a ++ word w p ∷ e → 16 < length w → ⊥
+not_fair : (ts a e : List Tok) (w : List ℕ) (p : ℕ) → AllByRecursion Fair ts → ts ≡ a ++ word w p ∷ e → 16 < length w → ⊥
 not_fair ts a e w p fair h long =
-    let short : length w ≤ 16 = middle Fair a e (word w p) (subst (All Fair) h fair) in
+    let short : length w ≤ 16 = middle Fair a e (word w p) (subst (AllByRecursion Fair) h fair) in
     omega arith
 
 one_overlong : (ts : List Tok) (p q : ℕ) → Overlong ts p → Overlong ts q → p ≡ q
@@ -205,11 +205,11 @@ Brief (word w p) = Short (length w)
 Brief (mark b p) = Unit {0}
 Brief (end p) = Unit {0}
 
-brief_pins : {ps : List Tok} {ss : List Span} → PinWords Short ps ss → All Brief ps
+brief_pins : {ps : List Tok} {ss : List Span} → PinWords Short ps ss → AllByRecursion Brief ps
 brief_pins (last_pin h) = (h, tt)
 brief_pins (more_pins h r) = (h, (tt, brief_pins r))
 
-brief_form : {ts : List Tok} {x : Statement} → Form ts x → All Brief ts
+brief_form : {ts : List Tok} {x : Statement} → Form ts x → AllByRecursion Brief ts
 brief_form empty = (tt, tt)
 brief_form (declaration h g) = (h, (tt, (g, (tt, (tt, tt)))))
 brief_form (gate {c = c} {ps = ps} e h g r) = (h, (tt, (g, (tt, All-append Brief ps (mark 41 c ∷ end e ∷ []) (brief_pins r) (tt, (tt, tt))))))
@@ -217,7 +217,7 @@ brief_form (gate {c = c} {ps = ps} e h g r) = (h, (tt, (g, (tt, All-append Brief
 -- nor a word that is too long
 overlong_no_form : (ts : List Tok) (p : ℕ) (x : Statement) → Overlong ts p → Form ts x → ⊥
 overlong_no_form ts p x m f =
-    let short : length m.bytes ≤ 16 = middle Brief m.before m.after (word m.bytes p) (subst (All Brief) m.splits (brief_form f)) in
+    let short : length m.bytes ≤ 16 = middle Brief m.before m.after (word m.bytes p) (subst (AllByRecursion Brief) m.splits (brief_form f)) in
     omega arith
 
 pub each_misfit : (ts : List Tok) (p : ℕ) → OneEnd ts → Misfit ts p → said Start ts ≡ Err (OutOfForm p)

@@ -1,6 +1,6 @@
 -- The words of a text line, and the names and pins that its statement has.
 use Rattle.std.proofs.Common.{◌≡◌, ℕ, ◌+◌, ◌-◌, ◌≤◌, eqb, ltb, leb, List, [], ◌∷◌, ◌++◌, length, Ok, Err, Result, refl, ◌∙◌, arith, length-set}
-use Rattle.std.specs.List.{AllByRecursion as All}
+use Rattle.std.specs.List.{AllByRecursion}
 use Rattle.std.proofs.lemmas.List.{length_push}
 use Rattle.std.proofs.lemmas.Bool.{cond_both, leb-true, eqb-false}
 use Rattle.circuit.specs.declared.row.Span.{Span}
@@ -24,33 +24,33 @@ Before n (word w p) = (1 ≤ length w) × (p + length w ≤ n)
 Before n (mark b p) = Unit {0}
 Before n (end p) = Unit {0}
 
-flush_before : (n : ℕ) (w : List ℕ) (p : ℕ) (ts : List Tok) → length w ≤ p → p ≤ n → All (Before n) ts → All (Before n) (flush w p ts)
+flush_before : (n : ℕ) (w : List ℕ) (p : ℕ) (ts : List Tok) → length w ≤ p → p ≤ n → AllByRecursion (Before n) ts → AllByRecursion (Before n) (flush w p ts)
 unfolding flush
 flush_before n w p ts h k a =
-    cond_both (eqb (length w) 0) ts (word w (p - length w) ∷ ts) (All (Before n)) (λ e. a) (λ e.
+    cond_both (eqb (length w) 0) ts (word w (p - length w) ∷ ts) (AllByRecursion (Before n)) (λ e. a) (λ e.
     let some : length w ≡ 0 → ⊥ = eqb-false (length w) 0 e in
     ((omega arith, omega arith), a))
 
-pub tokens_before : (n : ℕ) (w bs : List ℕ) (p : ℕ) → length w ≤ p → p + length bs ≤ n → All (Before n) (tokens w bs p)
+pub tokens_before : (n : ℕ) (w bs : List ℕ) (p : ℕ) → length w ≤ p → p + length bs ≤ n → AllByRecursion (Before n) (tokens w bs p)
 unfolding tokens
 tokens_before n w [] p h k = flush_before n w p (end p ∷ []) h (omega arith) (tt, tt)
 tokens_before n w (b ∷ bs) p h k =
-    let rest : All (Before n) (tokens [] bs (p + 1)) = tokens_before n [] bs (p + 1) (omega arith) (omega arith) in
-    cond_both (word_byte b) _ _ (All (Before n))
+    let rest : AllByRecursion (Before n) (tokens [] bs (p + 1)) = tokens_before n [] bs (p + 1) (omega arith) (omega arith) in
+    cond_both (word_byte b) _ _ (AllByRecursion (Before n))
     (λ e. tokens_before n (w ++ b ∷ []) bs (p + 1) (omega (arith, length_push w b)) (omega arith))
     (λ e. flush_before n w p _ h (omega arith)
-    (cond_both (blank_byte b) _ _ (All (Before n)) (λ e. rest)
-    (λ e. cond_both (stop_byte b) (end p ∷ []) (mark b p ∷ tokens [] bs (p + 1)) (All (Before n)) (λ e. (tt, tt)) (λ e. (tt, rest)))))
+    (cond_both (blank_byte b) _ _ (AllByRecursion (Before n)) (λ e. rest)
+    (λ e. cond_both (stop_byte b) (end p ∷ []) (mark b p ∷ tokens [] bs (p + 1)) (AllByRecursion (Before n)) (λ e. (tt, tt)) (λ e. (tt, rest)))))
 
-later_before : (n : ℕ) (bs : List ℕ) (p : ℕ) → p + length bs ≤ n → All (All (Before n)) (later bs p)
+later_before : (n : ℕ) (bs : List ℕ) (p : ℕ) → p + length bs ≤ n → AllByRecursion (AllByRecursion (Before n)) (later bs p)
 unfolding later
 later_before n [] p k = tt
 later_before n (b ∷ bs) p k =
-    let more : All (All (Before n)) (later bs (p + 1)) = later_before n bs (p + 1) (omega arith) in
-    cond_both (eqb b 10) _ _ (All (All (Before n))) (λ e. (tokens_before n [] bs (p + 1) (omega arith) (omega arith), more)) (λ e. more)
+    let more : AllByRecursion (AllByRecursion (Before n)) (later bs (p + 1)) = later_before n bs (p + 1) (omega arith) in
+    cond_both (eqb b 10) _ _ (AllByRecursion (AllByRecursion (Before n))) (λ e. (tokens_before n [] bs (p + 1) (omega arith) (omega arith), more)) (λ e. more)
 
 -- each word of the text lines stands in the text
-pub lines_before : (text : List ℕ) → All (All (Before (length text))) (lines_from text 0)
+pub lines_before : (text : List ℕ) → AllByRecursion (AllByRecursion (Before (length text))) (lines_from text 0)
 lines_before text =
     (tokens_before (length text) [] text 0 (omega arith) (omega arith), later_before (length text) text 0 (omega arith))
 
@@ -139,11 +139,11 @@ said_from text ts f (Ok (To n)) g = f n g
 said_from text ts f (Ok (Whole x)) g = g
 said_from text ts f (Err e) g = tt
 
-said_ready : (text : List ℕ) (ts : List Tok) → All (Before (length text)) ts → (s : State) → Ready text s → Accepted (said s ts) (Sound text)
+said_ready : (text : List ℕ) (ts : List Tok) → AllByRecursion (Before (length text)) ts → (s : State) → Ready text s → Accepted (said s ts) (Sound text)
 unfolding said next_said
 said_ready text [] a s r = tt
 said_ready text (t ∷ ts) a s r = said_from text ts (said_ready text ts a.1) (stepped s t) (step_goes text s t a.0 r)
 
 -- the statement of a text line is sound
-pub said_sound : (text : List ℕ) (l : List Tok) → All (Before (length text)) l → Accepted (said Start l) (Sound text)
+pub said_sound : (text : List ℕ) (l : List Tok) → AllByRecursion (Before (length text)) l → Accepted (said Start l) (Sound text)
 said_sound text l a = said_ready text l a Start tt

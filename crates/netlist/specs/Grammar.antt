@@ -1,6 +1,6 @@
 -- What a well-formed text line is, and what it says.
 use Rattle.std.specs.Prelude.{◌≡◌, ℕ, ◌<◌, ◌≤◌, List, [], ◌∷◌, ◌++◌, length, Ok, Err, fold}
-use Rattle.std.specs.List.{AllByRecursion as All}
+use Rattle.std.specs.List.{AllByRecursion}
 use Rattle.circuit.specs.declared.row.Span.{Span}
 use Rattle.netlist.specs.Statements.{no_pins, added, said}
 use Rattle.netlist.specs.Tokens.{Tok, word, mark, end, line}
@@ -78,7 +78,7 @@ pub record Misfit (ts : List Tok) (p : ℕ) : Type 0 where
   pub after : List Tok
   pub splits : ts ≡ before ++ misfit ∷ after
   pub stands : tok_place misfit ≡ p
-  pub fair : All Fair before
+  pub fair : AllByRecursion Fair before
   pub goes_so_far : Viable before
   pub goes_no_further : Viable (before ++ misfit ∷ []) → ⊥
 
@@ -89,7 +89,7 @@ pub record Overlong (ts : List Tok) (p : ℕ) : Type 0 where
   pub after : List Tok
   pub splits : ts ≡ before ++ word bytes p ∷ after
   pub too_long : 16 < length bytes
-  pub fair : All Fair before
+  pub fair : AllByRecursion Fair before
   pub goes_so_far : Viable (before ++ word bytes p ∷ [])
 
 -- A text line is refused at the first token that is out of form or too long, and for no other reason.
