@@ -1,5 +1,5 @@
 -- The table of worked examples.
-use Rattle.std.specs.Prelude.{◌≡◌, ℕ, Bool, true, false, List, [], ◌∷◌, drop, codes}
+use Rattle.std.specs.Prelude.{◌≡◌, ℕ, List, [], ◌∷◌, drop, codes}
 use Rattle.level.specs.declared.level.Level.{Level}
 use Rattle.level.specs.declared.level.Level.TheVariants.{Zero, One, X}
 use Rattle.circuit.specs.Bridges.{number, low, high, pairs}

@@ -1,10 +1,8 @@
 -- What the check of a vector comes to.
-use Rattle.std.proofs.Common.{◌≡◌, ℕ, ◌<◌, ◌≤◌, Bool, true, false, cond, not, eqb, ltb, List, length, get_or, is_ok, Ok, Err, Result, sym, ap, ◌∙◌, arith}
-use Rattle.std.proofs.lemmas.Bool.{cond-true, cond-false, eq-eqb, lt-ltb, le-ltb, cases_lt, not-false}
+use Rattle.std.proofs.Common.{◌≡◌, ℕ, ◌<◌, ◌≤◌, Bool, true, false, not, List, length, get_or, is_ok, Ok, Err, sym, ap, ◌∙◌, arith}
+use Rattle.std.proofs.lemmas.Bool.{cond-true, cond-false, eq-eqb, lt-ltb, le-ltb, not-false}
 use Rattle.std.proofs.lemmas.Bool.Decides.{nat_tests}
-use Rattle.circuit.specs.declared.vector.VectorFault.{VectorFault}
-use Rattle.circuit.specs.declared.vector.VectorFault.TheVariants.{Length, Byte}
-use Rattle.circuit.specs.Search.{first}
+use Rattle.circuit.specs.declared.vector.VectorFault.TheVariants.{Byte}
 use Rattle.circuit.specs.declared.row.Row.{Row}
 use Rattle.circuit.specs.Rows.{inputs}
 use Rattle.circuit.specs.Vectors.{fits, bad_at, vector_outcome, as_evaluation, evaluation_outcome}

@@ -1,10 +1,10 @@
 -- Marks that hold the cone of a line, and how many bridges they count.
-use Rattle.std.proofs.Common.{◌≡◌, ℕ, ◌+◌, ◌-◌, ◌<◌, ◌≤◌, Bool, true, false, List, [], length, get_or, take, drop, Ok, Err, Result, sym, refl, ap, ◌∙◌, subst, arith}
+use Rattle.std.proofs.Common.{◌≡◌, ℕ, ◌+◌, ◌-◌, ◌<◌, ◌≤◌, Bool, false, List, length, get_or, take, drop, Ok, sym, ap, ◌∙◌, arith}
 use Rattle.std.proofs.lemmas.List.{get_or-take, get_or-drop, length-take-le, length-drop}
 use Rattle.std.proofs.lemmas.Bool.{cond-true, lt-ltb}
 use Rattle.circuit.specs.declared.row.Row.{Row}
 use Rattle.circuit.specs.declared.bridge.Bridge.{Bridge}
-use Rattle.circuit.specs.Bridges.{pairs, low, high, bridge_outcome}
+use Rattle.circuit.specs.Bridges.{pairs, high, bridge_outcome}
 use Rattle.circuit.specs.Feedback.{cone, feedback, feedback_bridge, feedback_outcome}
 use Rattle.circuit.specs.Search.{count}
 use Rattle.circuit.proofs.Finds.{count_same, count_split}

@@ -1,12 +1,12 @@
 -- A gate takes in its pins one after another.
-use Rattle.std.proofs.Common.{◌≡◌, ℕ, ◌+◌, ◌-◌, ◌<◌, Bool, true, false, cond, not, ◌&&◌, ◌||◌, List, [], ◌∷◌, map, length, get_or, take, drop, sym, refl, ap, ◌∙◌, arith}
+use Rattle.std.proofs.Common.{◌≡◌, ℕ, ◌+◌, ◌-◌, ◌<◌, Bool, true, false, cond, not, List, [], ◌∷◌, map, length, get_or, take, drop, sym, refl, ap, ◌∙◌, arith}
 use Rattle.std.proofs.lemmas.List.{at_drop_more, get_or-map, drop_more, take_rest, get_or-drop, length-drop}
 use Rattle.level.specs.declared.level.Level.{Level}
 use Rattle.level.specs.declared.level.Level.TheVariants.{Zero, One, X}
 use Rattle.level.specs.Tables.{not3, and3, or3, xor3}
 use Rattle.circuit.specs.declared.kind.Kind.{Kind}
 use Rattle.circuit.specs.declared.kind.Kind.TheVariants.{Input, And, Nand, Or, Nor, Xor, Xnor, Not, Buff}
-use Rattle.circuit.specs.Gates.{and_of, or_of, xor_of, only, join2, joined, gate_level, inverts, odd_ones, any_pin, is_x}
+use Rattle.circuit.specs.Gates.{and_of, or_of, xor_of, join2, joined, gate_level, inverts, odd_ones, any_pin, is_x}
 use Rattle.circuit.specs.Levels.{pin_level}
 use Rattle.circuit.specs.Rows.{Below}
 

@@ -1,14 +1,13 @@
 -- What the lawfulness of rows comes to at one row.
-use Rattle.std.proofs.Common.{◌≡◌, ℕ, ◌+◌, ◌<◌, ◌≤◌, Bool, true, false, cond, ◌&&◌, ltb, leb, List, [], length, get_or, take, Some, None, Decides, Option, sym, refl, ap, ◌∙◌, subst, arith}
+use Rattle.std.proofs.Common.{◌≡◌, ℕ, ◌+◌, ◌<◌, ◌≤◌, Bool, true, false, cond, ltb, leb, List, [], length, get_or, take, Some, sym, refl, ap, subst, arith}
 use Rattle.std.proofs.lemmas.List.{length-take}
-use Rattle.std.proofs.lemmas.Bool.{and_parts, and_from, ltb-true, leb-true, lt-ltb, le-leb, eqb-true, both_ways}
-use Rattle.std.proofs.lemmas.Bool.Decides.{nat_tests}
+use Rattle.std.proofs.lemmas.Bool.{and_parts, ltb-true, leb-true, eqb-true, both_ways}
 use Rattle.circuit.specs.declared.kind.Kind.{Kind}
 use Rattle.circuit.specs.declared.kind.Kind.TheVariants.{Input, And, Nand, Or, Nor, Xor, Xnor, Not, Buff}
 use Rattle.circuit.specs.declared.row.Row.{Row}
 use Rattle.circuit.specs.Kinds.{takes, is_input, is_gate}
-use Rattle.circuit.specs.Rows.{row_at, pins_of, counted, row_lawful, lawful, all_below, Below, Lawful, inputs, inputs_before, each_lawful}
-use Rattle.circuit.proofs.Finds.{each_at, each_from, count_le, count_more, count_mono}
+use Rattle.circuit.specs.Rows.{row_at, pins_of, counted, row_lawful, lawful, Below, inputs, inputs_before}
+use Rattle.circuit.proofs.Finds.{each_at, count_more, count_mono}
 
 -- the pins of a lawful row are below it
 pub row_below : (i : ℕ) (r : Row) → row_lawful i r ≡ true → Below i (pins_of r)

@@ -1,12 +1,12 @@
 -- Bridges and their numbers undo each other.
-use Rattle.std.proofs.Common.{◌≡◌, ℕ, zero, suc, ◌+◌, ◌-◌, ◌*◌, ◌/◌, ◌<◌, ◌≤◌, true, false, cond, ◌&&◌, ltb, leb, Some, None, Ok, Err, sym, refl, ap, ◌∙◌, subst, inl, inr, suc-mul, mul_comm, mul-le-mul, mul-le-mul_left, mul-zero, zero-mul, mul-suc, add-one, arith}
+use Rattle.std.proofs.Common.{◌≡◌, ℕ, zero, suc, ◌+◌, ◌-◌, ◌*◌, ◌/◌, ◌<◌, ◌≤◌, true, false, ◌&&◌, ltb, leb, Some, None, Ok, Err, sym, refl, ap, ◌∙◌, subst, inl, inr, suc-mul, mul-le-mul, mul-le-mul_left, zero-mul, mul-suc, add-one, arith}
 use Rattle.std.proofs.lemmas.Bool.{lt-ltb, le-ltb, le-leb, ltb-true, ltb-false, leb-true, and_from, and_parts, cases_Bool, cond-true, cond-false}
 use Rattle.std.proofs.lemmas.Bool.Decides.{nat_tests}
 use Rattle.circuit.specs.Bridges.{pairs, number, low, high, bridge_of, bridge_outcome, number_of, Numbered}
 use Rattle.std.specs.Option.{ok_or}
 use Rattle.circuit.specs.declared.bridge.Bridge.{Bridge}
 use Rattle.circuit.specs.declared.refusal.CircuitFault.{CircuitFault}
-use Rattle.circuit.specs.declared.refusal.CircuitFault.TheVariants.{NoLine, NoBridge}
+use Rattle.circuit.specs.declared.refusal.CircuitFault.TheVariants.{NoBridge}
 
 -- the number by recursion, as the two lines are found from it
 abbrev steps : ℕ → ℕ → ℕ → ℕ

@@ -1,5 +1,5 @@
 -- The levels of a lawful circuit are readings in which every line reads as its kind says.
-use Rattle.std.proofs.Common.{◌≡◌, ℕ, zero, suc, ◌+◌, ◌<◌, ◌≤◌, Bool, true, false, cond, List, [], ◌∷◌, map, length, get_or, take, Some, None, Option, sym, refl, ap, ◌∙◌, subst, arith}
+use Rattle.std.proofs.Common.{◌≡◌, ℕ, suc, ◌<◌, true, false, cond, List, [], ◌∷◌, map, length, get_or, take, Some, Option, sym, refl, ap, ◌∙◌, subst, arith}
 use Rattle.std.proofs.lemmas.List.{get_or-take, length-take-le}
 use Rattle.level.specs.declared.level.Level.{Level}
 use Rattle.level.specs.declared.level.Level.TheVariants.{X}
@@ -8,7 +8,7 @@ use Rattle.circuit.specs.declared.kind.Kind.TheVariants.{Input, And, Nand, Or, N
 use Rattle.circuit.specs.declared.row.Row.{Row}
 use Rattle.circuit.specs.Gates.{gate_level}
 use Rattle.circuit.specs.Kinds.{is_input, is_gate}
-use Rattle.circuit.specs.Levels.{byte_level, gate_of, line_level, row_level, levels, pin_level, Reads}
+use Rattle.circuit.specs.Levels.{byte_level, gate_of, line_level, levels, pin_level, Reads}
 use Rattle.circuit.specs.Rows.{row_at, pins_of, lawful, Below, inputs_before}
 use Rattle.circuit.proofs.Builds.{build_at, build_length}
 use Rattle.circuit.proofs.Laws.{lawful_row, row_below}

@@ -1,5 +1,5 @@
 -- Taking a circuit, in words.
-use Rattle.std.proofs.Common.{◌≡◌, ℕ, ◌+◌, ◌<◌, ◌≤◌, Bool, true, false, cond, not, ◌&&◌, ◌||◌, ltb, leb, ◌⊎◌, List, [], length, get_or, take, sym, refl, ap, ◌∙◌, subst, inl, inr, arith}
+use Rattle.std.proofs.Common.{◌≡◌, true, not, ◌&&◌, ◌||◌, ltb, List, [], length, get_or, take, sym, refl, ap, subst, inl, inr, arith}
 use Rattle.std.proofs.lemmas.List.{length-take-le}
 use Rattle.std.proofs.lemmas.Bool.{and_parts, and_from, or_left, or_right, or_cases, not-true, not-false, not_from_false, le-leb, lt-ltb, le-ltb, cases_Bool, cases_lt, both_ways, cond-true, cond-false}
 use Rattle.circuit.specs.declared.row.Row.{Row}

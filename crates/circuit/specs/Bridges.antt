@@ -1,9 +1,9 @@
 -- Bridges by number: the pairs of lines u < v below n, in the order of u, then of v.
-use Rattle.std.specs.Prelude.{◌≡◌, ℕ, zero, suc, ◌+◌, ◌-◌, ◌*◌, ◌/◌, ◌<◌, Bool, true, false, cond, ◌&&◌, Some, None, Option, Result, nat_le, nat_lt}
+use Rattle.std.specs.Prelude.{◌≡◌, ℕ, zero, suc, ◌+◌, ◌-◌, ◌*◌, ◌/◌, ◌<◌, cond, ◌&&◌, Some, None, Option, Result, nat_le, nat_lt}
 use Rattle.std.specs.Option.{ok_or}
 use Rattle.circuit.specs.declared.bridge.Bridge.{Bridge}
 use Rattle.circuit.specs.declared.refusal.CircuitFault.{CircuitFault}
-use Rattle.circuit.specs.declared.refusal.CircuitFault.TheVariants.{NoLine, NoBridge}
+use Rattle.circuit.specs.declared.refusal.CircuitFault.TheVariants.{NoBridge}
 
 -- how many bridges n lines have
 abbrev pub pairs : ℕ → ℕ

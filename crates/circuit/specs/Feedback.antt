@@ -1,7 +1,7 @@
 -- Feedback bridges: a chain of pins leads from the lower line to the higher one.
-use Rattle.std.specs.Prelude.{◌≡◌, ℕ, ◌<◌, Bool, true, false, cond, ◌||◌, List, [], length, get_or, Ok, Err, Result, ◌==◌, nat_lt, slice_index, slice_index_or}
+use Rattle.std.specs.Prelude.{◌≡◌, ℕ, ◌<◌, Bool, false, cond, ◌||◌, List, [], length, get_or, Ok, Err, Result, ◌==◌, nat_lt, slice_index, slice_index_or}
 use Rattle.circuit.specs.declared.refusal.CircuitFault.{CircuitFault}
-use Rattle.circuit.specs.declared.refusal.CircuitFault.TheVariants.{NoLine, NoBridge}
+use Rattle.circuit.specs.declared.refusal.CircuitFault.TheVariants.{NoBridge}
 use Rattle.circuit.specs.declared.row.Row.{Row}
 use Rattle.circuit.specs.Bridges.{pairs, low, high}
 use Rattle.circuit.specs.Levels.{build}

@@ -1,10 +1,9 @@
 -- What rows make a circuit.
-use Rattle.std.specs.Prelude.{◌≡◌, ℕ, ◌<◌, ◌≤◌, Bool, true, false, cond, not, ◌&&◌, ◌||◌, ltb, List, [], ◌∷◌, length, take, replicate, is_some, Some, None, Ok, Err, Option, Result, nat_le, nat_lt, slice_index, slice_index_or}
+use Rattle.std.specs.Prelude.{◌≡◌, ℕ, ◌<◌, ◌≤◌, Bool, true, false, cond, not, ◌&&◌, ◌||◌, ltb, List, [], length, take, replicate, is_some, Some, None, Ok, Err, Option, Result, nat_le, nat_lt, slice_index, slice_index_or}
 use Rattle.circuit.specs.declared.refusal.CircuitFault.{CircuitFault}
-use Rattle.circuit.specs.declared.refusal.CircuitFault.TheVariants.{NoLine, NoBridge}
+use Rattle.circuit.specs.declared.refusal.CircuitFault.TheVariants.{NoLine}
 use Rattle.circuit.specs.declared.kind.Kind.{Kind}
 use Rattle.circuit.specs.declared.row.Row.{Row}
-use Rattle.circuit.specs.declared.row.Span.{Span}
 use Rattle.circuit.specs.Kinds.{takes, is_input, is_gate}
 use Rattle.circuit.specs.Search.{each, first, count}
 

@@ -1,5 +1,5 @@
 -- Which vectors a circuit takes.
-use Rattle.std.specs.Prelude.{◌≡◌, ℕ, ◌<◌, Bool, true, false, cond, not, List, length, is_some, Ok, Err, Result, ◌==◌, nat_lt, slice_index}
+use Rattle.std.specs.Prelude.{◌≡◌, ℕ, ◌<◌, Bool, true, cond, not, List, length, is_some, Ok, Err, Result, ◌==◌, nat_lt, slice_index}
 use Rattle.level.specs.Bytes.{allowed}
 use Rattle.circuit.specs.declared.row.Row.{Row}
 use Rattle.circuit.specs.declared.vector.VectorFault.{VectorFault}

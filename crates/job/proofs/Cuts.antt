@@ -1,8 +1,8 @@
 -- The search for the `%` line.
-use Rattle.std.proofs.Common.{◌≡◌, ℕ, ◌+◌, ◌-◌, ◌<◌, ◌≤◌, min, Bool, true, false, ◌&&◌, ◌||◌, eqb, ◌⊎◌, List, length, get_or, take, drop, sym, refl, ap, ◌∙◌, subst, inl, inr, arith}
+use Rattle.std.proofs.Common.{◌≡◌, ℕ, ◌+◌, ◌-◌, ◌<◌, ◌≤◌, min, Bool, true, false, ◌&&◌, eqb, List, length, get_or, drop, sym, ap, ◌∙◌, subst, inl, inr, arith}
 use Rattle.std.proofs.lemmas.List.{drop_all}
 use Rattle.std.proofs.lemmas.Bool.{and_left, and_right, and_from, or_from, or_right, ne_eqb, cases_lt, cases_eq}
-use Rattle.circuit.specs.Search.{each, first, count}
+use Rattle.circuit.specs.Search.{first}
 use Rattle.circuit.proofs.Finds.{first_is, first_none, first_le, first_at, first_before}
 use Rattle.job.specs.Parts.{begins, line_end, line_at, percent_line, percent_at}
 

@@ -1,5 +1,5 @@
 -- The parts of a job: netlist, `%` line and vector lines.
-use Rattle.std.specs.Prelude.{◌≡◌, ℕ, ◌+◌, ◌-◌, ◌<◌, ◌≤◌, Bool, true, false, ◌&&◌, ◌||◌, List, length, take, drop, Ok, Err, Result, ◌==◌, nat_eq, slice_index}
+use Rattle.std.specs.Prelude.{◌≡◌, ℕ, ◌+◌, ◌-◌, ◌<◌, ◌≤◌, Bool, ◌&&◌, ◌||◌, List, length, take, drop, Ok, Err, Result, ◌==◌, nat_eq, slice_index}
 use Rattle.circuit.specs.Search.{each, first, count}
 use Rattle.netlist.specs.Bytes.{blank_byte}
 use Rattle.job.specs.declared.fault.JobFault.{JobFault}

@@ -1,5 +1,4 @@
 -- Numbers, places and layers of what a job is refused for.
-use Rattle.std.specs.Prelude.{ℕ}
 use Rattle.circuit.specs.declared.refusal.Layer.TheVariants.{Job}
 use Rattle.circuit.specs.declared.refusal.Refusal.{Refusal}
 use Rattle.netlist.specs.Refusals.{refusal_of as netlist_refusal_of}

@@ -1,5 +1,5 @@
 -- One token of a text line, and what it leads to.
-use Rattle.std.proofs.Common.{◌≡◌, ℕ, ◌<◌, ◌≤◌, List, [], ◌∷◌, length, Ok, Err, Result, sym, refl, ap, ◌∙◌, arith}
+use Rattle.std.proofs.Common.{◌≡◌, ℕ, ◌<◌, ◌≤◌, List, [], length, Ok, Err, Result, sym, refl, ap, ◌∙◌, arith}
 use Rattle.netlist.specs.Statements.{Placed, on_end, stepped, said}
 use Rattle.netlist.specs.Tokens.{Tok, tok, line, First}
 use Rattle.netlist.specs.declared.fault.TokenFault.{TokenFault}

@@ -1,5 +1,5 @@
 -- The text lines, one by one.
-use Rattle.std.proofs.Common.{◌≡◌, ℕ, ◌≤◌, List, [], ◌∷◌, length, Ok, Err, Result, ap, ◌∙◌}
+use Rattle.std.proofs.Common.{◌≡◌, ℕ, ◌≤◌, List, [], ◌∷◌, length, Ok, Err, Result, ap}
 use Rattle.std.proofs.lemmas.Bool.{cond-true, le-leb}
 use Rattle.circuit.specs.declared.row.Row.{Row}
 use Rattle.netlist.specs.Reading.{lines_from, after_line, rows_of, marked_line, marked, with_marks, reading}

@@ -8,7 +8,7 @@ use Rattle.netlist.specs.Accepted.{Accepted, NameIn}
 use Rattle.netlist.specs.Bytes.{word_byte, blank_byte, stop_byte}
 use Rattle.netlist.specs.Reading.{lines_from}
 use Rattle.netlist.specs.Statements.{added, span_of, to, on_word, on_mark, on_end, stepped, said}
-use Rattle.netlist.specs.Tokens.{Tok, word, mark, end, flush, tokens, line, later}
+use Rattle.netlist.specs.Tokens.{Tok, word, mark, end, flush, tokens, later}
 use Rattle.netlist.specs.declared.fault.TokenFault.{TokenFault}
 use Rattle.netlist.specs.declared.statement.Pins.{Pins}
 use Rattle.netlist.specs.declared.statement.State.{State}

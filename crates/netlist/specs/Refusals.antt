@@ -1,5 +1,4 @@
 -- Numbers, places and layers of what the reader refuses.
-use Rattle.std.specs.Prelude.{ℕ}
 use Rattle.circuit.specs.declared.refusal.Layer.TheVariants.{Circuit}
 use Rattle.circuit.specs.declared.refusal.Refusal.{Refusal}
 use Rattle.netlist.specs.declared.fault.NetlistFault.{NetlistFault}

@@ -1,5 +1,5 @@
 -- The tokens of the text lines.
-use Rattle.std.specs.Prelude.{◌≡◌, ℕ, ◌+◌, ◌-◌, ◌<◌, ◌≤◌, Bool, cond, List, [], ◌∷◌, ◌++◌, length, drop, Some, None, Option, ◌==◌}
+use Rattle.std.specs.Prelude.{◌≡◌, ℕ, ◌+◌, ◌-◌, ◌<◌, ◌≤◌, cond, List, [], ◌∷◌, ◌++◌, length, drop, Some, None, Option, ◌==◌}
 use Rattle.std.specs.List.{between}
 use Rattle.netlist.specs.Bytes.{word_byte, blank_byte, stop_byte}
 use Rattle.netlist.specs.declared.token.Token.{Token}

@@ -1,4 +1,4 @@
-use Rattle.std.proofs.Common.{◌≡◌, true, false, refl, lit<}
+use Rattle.std.proofs.Common.{false, refl, lit<}
 use Rattle.std.proofs.lemmas.Bool.{both_ways}
 use Rattle.circuit.proofs.Chains.{feedback_decides}
 use Rattle.cases.specs.Circuits.{example}

@@ -1,4 +1,4 @@
-use Rattle.std.proofs.Common.{◌≡◌, Some, sym, ap, ◌∙◌, inl, inr, arith}
+use Rattle.std.proofs.Common.{Some, sym, ap, ◌∙◌, inl, inr, arith}
 use Rattle.circuit.proofs.Numbers.{numbered, number_some, number_none}
 use Rattle.circuit.proofs.bridge.bridge_number.Goals as goal
 

@@ -1,4 +1,4 @@
-use Rattle.std.proofs.Common.{◌≡◌, ℕ, Bool, false, length, get_or, sym, ◌∙◌}
+use Rattle.std.proofs.Common.{ℕ, Bool, false, length, get_or, sym, ◌∙◌}
 use Rattle.std.proofs.lemmas.Bool.{or_from}
 use Rattle.circuit.proofs.Finds.{some_from, some_more}
 use Rattle.circuit.proofs.cone.is_any_marked.Goals as goal

@@ -1,9 +1,9 @@
-use Rattle.std.proofs.Common.{◌≡◌, ℕ, ◌+◌, ◌-◌, ◌<◌, ◌≤◌, Bool, List, [], ◌∷◌, ◌++◌, length, take, drop, sym, ap, ◌∙◌, subst, arith, length-set}
+use Rattle.std.proofs.Common.{◌≡◌, ◌+◌, ◌-◌, ◌<◌, Bool, List, [], ◌∷◌, ◌++◌, length, take, drop, sym, ap, ◌∙◌, arith, length-set}
 use native.Mathlib.Nat.{sub-zero}
 use Rattle.std.proofs.lemmas.List.{at_drop_all, length-take-le, take_more_set}
-use Rattle.circuit.specs.Feedback.{reach, cone}
+use Rattle.circuit.specs.Feedback.{reach}
 use Rattle.circuit.specs.Levels.{build}
-use Rattle.circuit.specs.Rows.{row_at, pins_of, Below}
+use Rattle.circuit.specs.Rows.{row_at}
 use Rattle.circuit.proofs.Builds.{build_more}
 use Rattle.circuit.proofs.Laws.{lawful_row, row_below}
 use Rattle.circuit.proofs.cone.mark_cone.Goals as goal

@@ -1,4 +1,4 @@
-use Rattle.std.proofs.Common.{◌≡◌, sym, ◌∙◌}
+use Rattle.std.proofs.Common.{sym, ◌∙◌}
 use Rattle.circuit.proofs.Detects.{detected_none, detected_some, detected_vector}
 use Rattle.circuit.proofs.detection.is_detected.Goals as goal
 

@@ -1,10 +1,10 @@
-use Rattle.std.proofs.Common.{◌≡◌, ℕ, ◌+◌, ◌-◌, ◌<◌, ◌≤◌, Bool, true, map, length, get_or, take, drop, sym, ap, ◌∙◌, subst, arith, length-set}
+use Rattle.std.proofs.Common.{◌≡◌, ℕ, ◌-◌, ◌<◌, Bool, map, length, take, sym, ◌∙◌, arith, length-set}
 use native.Mathlib.Nat.{sub-zero}
-use Rattle.std.proofs.lemmas.List.{at_drop_all, drop-set-lt, length-take-le, length-map}
+use Rattle.std.proofs.lemmas.List.{at_drop_all, drop-set-lt, length-take-le}
 use Rattle.std.proofs.lemmas.Bool.{cond-true, cond-false}
 use Rattle.circuit.specs.Kinds.{is_input}
-use Rattle.circuit.specs.Levels.{build, line_level, levels}
-use Rattle.circuit.specs.Rows.{row_at, row_lawful, inputs, inputs_before}
+use Rattle.circuit.specs.Levels.{build, line_level}
+use Rattle.circuit.specs.Rows.{row_at}
 use Rattle.circuit.proofs.Builds.{levels_more}
 use Rattle.circuit.proofs.Finds.{count_le, count_more}
 use Rattle.circuit.proofs.Laws.{lawful_row, input_fed}

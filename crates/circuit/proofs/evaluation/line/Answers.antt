@@ -1,4 +1,4 @@
-use Rattle.std.proofs.Common.{◌≡◌, ◌<◌, length, sym, arith, rules}
+use Rattle.std.proofs.Common.{◌≡◌, length, sym, rules}
 use Rattle.circuit.proofs.Laws.{gate_some, row_below}
 use Rattle.circuit.proofs.evaluation.line.Goals as goal
 

@@ -1,4 +1,4 @@
-use Rattle.std.proofs.Common.{◌≡◌, ◌∷◌, map, get_or, sym, ◌∙◌}
+use Rattle.std.proofs.Common.{◌∷◌, map, get_or, sym, ◌∙◌}
 use Rattle.std.proofs.lemmas.List.{at_drop_all}
 use Rattle.circuit.specs.Gates.{joined}
 use Rattle.circuit.specs.Levels.{pin_level}

@@ -1,4 +1,4 @@
-use Rattle.std.proofs.Common.{◌≡◌, ℕ, Bool, sym, ◌∙◌, arith}
+use Rattle.std.proofs.Common.{ℕ, Bool, sym, ◌∙◌, arith}
 use Rattle.circuit.specs.Kinds.{is_input}
 use Rattle.circuit.specs.Rows.{row_at}
 use Rattle.circuit.proofs.Finds.{count_le, count_one, count_none}

@@ -1,4 +1,4 @@
-use Rattle.std.proofs.Common.{◌≡◌, ℕ, Bool, ◌||◌, eqb, length, get_or, sym, ◌∙◌}
+use Rattle.std.proofs.Common.{ℕ, Bool, ◌||◌, eqb, length, get_or, sym, ◌∙◌}
 use Rattle.std.proofs.lemmas.Bool.{and_from}
 use Rattle.circuit.proofs.Finds.{each_more, each_fails}
 use Rattle.netlist.specs.Bytes.{blank_byte}

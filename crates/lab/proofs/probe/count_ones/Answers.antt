@@ -1,4 +1,4 @@
-use Rattle.std.proofs.Common.{◌≡◌, ℕ, Bool, eqb, get_or, ◌∙◌, arith}
+use Rattle.std.proofs.Common.{ℕ, Bool, eqb, get_or, ◌∙◌, arith}
 use Rattle.std.proofs.lemmas.Bool.{eq-eqb, ne_eqb}
 use Rattle.circuit.proofs.Finds.{count_le, count_one, count_none}
 use Rattle.lab.proofs.probe.count_ones.Goals as goal

@@ -1,4 +1,4 @@
-use Rattle.std.proofs.Common.{◌≡◌, sym, ap, ◌∙◌}
+use Rattle.std.proofs.Common.{sym, ap, ◌∙◌}
 use Rattle.std.specs.Str.{bytes_eq}
 use Rattle.netlist.proofs.Names.{at_other, at_found, at_none}
 use Rattle.netlist.proofs.define.find.Goals as goal

@@ -1,4 +1,4 @@
-use Rattle.std.proofs.Common.{◌≡◌, sym, ap, ◌∙◌, arith, length-set}
+use Rattle.std.proofs.Common.{sym, ap, ◌∙◌, arith, length-set}
 use Rattle.netlist.specs.Names.{first_named}
 use Rattle.netlist.proofs.Pins.{pin_on, pin_fault, pin_all}
 use Rattle.netlist.proofs.define.resolve.Goals as goal

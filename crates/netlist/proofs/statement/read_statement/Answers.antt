@@ -1,4 +1,4 @@
-use Rattle.std.proofs.Common.{◌≡◌, length, Ok, sym, ap, ◌∙◌, arith}
+use Rattle.std.proofs.Common.{Ok, sym, ap, ◌∙◌, arith}
 use Rattle.std.proofs.lemmas.Result.{err_from_is_err_and}
 use Rattle.netlist.proofs.Lines.{said_to, said_whole, said_fault, further, not_before, within, is_placed}
 use Rattle.netlist.proofs.statement.read_statement.Goals as goal

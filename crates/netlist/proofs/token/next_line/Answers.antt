@@ -1,4 +1,4 @@
-use Rattle.std.proofs.Common.{◌≡◌, sym, ◌∙◌, arith}
+use Rattle.std.proofs.Common.{sym, ◌∙◌, arith}
 use Rattle.netlist.proofs.Steps.{at_ten, pass_other, no_more}
 use Rattle.netlist.proofs.token.next_line.Goals as goal
 

@@ -1,4 +1,4 @@
-use Rattle.std.proofs.Common.{◌≡◌, sym, ◌∙◌, arith}
+use Rattle.std.proofs.Common.{sym, ◌∙◌, arith}
 use Rattle.netlist.proofs.Steps.{at_blank, pass_blank}
 use Rattle.netlist.proofs.token.skip_blanks.Goals as goal
 

@@ -1,6 +1,6 @@
-use Rattle.std.proofs.Common.{◌≡◌, Bool, true, List, map, length, take, is_ok, Ok, sym, refl, ap, ◌∙◌, subst, arith}
+use Rattle.std.proofs.Common.{◌≡◌, true, length, is_ok, Ok, sym, refl, ap, subst}
 use Rattle.std.proofs.lemmas.Bool.{both_ways}
-use Rattle.circuit.specs.Levels.{levels, Reads}
+use Rattle.circuit.specs.Levels.{Reads}
 use Rattle.circuit.specs.Rows.{inputs}
 use Rattle.circuit.specs.Vectors.{vector_outcome}
 use Rattle.circuit.proofs.Checks.{taken_by, taken_long, taken_fits, evaluates}

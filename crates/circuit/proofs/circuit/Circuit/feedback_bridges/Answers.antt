@@ -1,10 +1,10 @@
-use Rattle.std.proofs.Common.{◌≡◌, ◌+◌, length, sym, refl, ap, ◌∙◌, arith}
+use Rattle.std.proofs.Common.{◌≡◌, ◌+◌, length, sym, refl, ap, arith}
 use Rattle.circuit.specs.Feedback.{feedback_bridge}
 use Rattle.circuit.specs.Search.{count}
 use Rattle.circuit.proofs.Cones.{cone_count}
 use Rattle.circuit.proofs.Finds.{count_le}
 use Rattle.circuit.proofs.Laws.{lawful_lines}
-use Rattle.circuit.proofs.Numbers.{begin, begin_none, begin_all, pairs_few}
+use Rattle.circuit.proofs.Numbers.{begin, begin_none, pairs_few}
 use Rattle.circuit.proofs.circuit.Circuit.feedback_bridges.Goals as goal
 
 pub loop-low-init : goal.loop-low-init

@@ -1,4 +1,4 @@
-use Rattle.std.proofs.Common.{◌≡◌, Bool, length, Decides, sym, subst, arith}
+use Rattle.std.proofs.Common.{Bool, length, Decides, sym, subst, arith}
 use Rattle.circuit.specs.Bridges.{low, high}
 use Rattle.circuit.specs.Feedback.{Chain}
 use Rattle.circuit.proofs.Chains.{feedback_decides}

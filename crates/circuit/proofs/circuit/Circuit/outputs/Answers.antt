@@ -1,4 +1,4 @@
-use Rattle.std.proofs.Common.{◌≡◌, ℕ, Bool, sym, ◌∙◌, arith}
+use Rattle.std.proofs.Common.{ℕ, Bool, ◌∙◌, arith}
 use Rattle.circuit.specs.Rows.{row_at}
 use Rattle.circuit.proofs.Finds.{count_le, count_one, count_none}
 use Rattle.circuit.proofs.circuit.Circuit.outputs.Goals as goal

@@ -1,4 +1,4 @@
-use Rattle.std.proofs.Common.{◌≡◌, sym, ◌∙◌, subst}
+use Rattle.std.proofs.Common.{sym, ◌∙◌, subst}
 use Rattle.circuit.specs.Rows.{Lawful}
 use Rattle.circuit.proofs.Takes.{lines_words, taken_lawful, taken_accepts, taken_refuses}
 use Rattle.circuit.proofs.circuit.Circuit.over.Goals as goal

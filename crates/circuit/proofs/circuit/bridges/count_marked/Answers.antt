@@ -1,4 +1,4 @@
-use Rattle.std.proofs.Common.{◌≡◌, ℕ, Bool, false, get_or, sym, ◌∙◌, arith}
+use Rattle.std.proofs.Common.{ℕ, Bool, false, get_or, ◌∙◌, arith}
 use Rattle.circuit.proofs.Finds.{count_le, count_one, count_none}
 use Rattle.circuit.proofs.circuit.bridges.count_marked.Goals as goal
 use Rattle.circuit.proofs.circuit.bridges.count_marked.Goals.{then-mark, else-mark}

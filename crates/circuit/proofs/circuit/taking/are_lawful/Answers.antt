@@ -1,4 +1,4 @@
-use Rattle.std.proofs.Common.{◌≡◌, ℕ, Bool, true, length, sym, ◌∙◌}
+use Rattle.std.proofs.Common.{ℕ, Bool, length, sym, ◌∙◌}
 use Rattle.std.proofs.lemmas.Bool.{and_from}
 use Rattle.circuit.specs.Rows.{row_lawful, row_at}
 use Rattle.circuit.proofs.Finds.{each_more, each_fails}

@@ -1,4 +1,4 @@
-use Rattle.std.proofs.Common.{◌≡◌, ℕ, ◌<◌, Bool, true, not, ◌||◌, ltb, length, sym, ◌∙◌, arith}
+use Rattle.std.proofs.Common.{◌≡◌, ℕ, Bool, true, not, ◌||◌, ltb, length, sym, ◌∙◌, arith}
 use Rattle.std.proofs.lemmas.Bool.{and_from, or_from, or_left, or_right, le-ltb, lt-ltb}
 use Rattle.circuit.specs.Rows.{named, row_at, line_count}
 use Rattle.circuit.proofs.Finds.{each_more, each_fails}

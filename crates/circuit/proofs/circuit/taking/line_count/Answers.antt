@@ -1,4 +1,4 @@
-use Rattle.std.proofs.Common.{◌≡◌, ℕ, ◌<◌, Bool, not, length, sym, arith, below_more}
+use Rattle.std.proofs.Common.{not, length, sym, arith, below_more}
 use Rattle.circuit.specs.Rows.{named, row_at}
 use Rattle.circuit.proofs.Finds.{first_is, first_none}
 use Rattle.circuit.proofs.circuit.taking.line_count.Goals as goal
