@@ -1,5 +1,5 @@
 -- What rows make a circuit.
-use Rattle.std.specs.Prelude.{◌≡◌, ℕ, ◌<◌, ◌≤◌, Bool, true, false, cond, not, ◌&&◌, ◌||◌, ltb, List, [], length, take, replicate, is_some, Some, None, Ok, Err, Option, Result, nat_le, nat_lt, slice_index, slice_index_or}
+use Rattle.std.specs.Prelude.{◌≡◌, ℕ, ◌<◌, ◌≤◌, Bool, true, false, cond, not, ◌&&◌, ◌||◌, List, [], length, take, replicate, is_some, Some, None, Ok, Err, Option, Result, nat_le, nat_lt, slice_index, slice_index_or}
 use Rattle.circuit.specs.declared.refusal.CircuitFault.{CircuitFault}
 use Rattle.circuit.specs.declared.refusal.CircuitFault.TheVariants.{NoLine}
 use Rattle.circuit.specs.declared.kind.Kind.{Kind}
@@ -31,7 +31,7 @@ counted None c = false
 counted (Some k) c = takes k c
 
 abbrev pub all_below : ℕ → List ℕ → Bool
-all_below n ps = each (length ps) (λ j. ltb (slice_index ps j) n)
+all_below n ps = each (length ps) (λ j. nat_lt (slice_index ps j) n)
 
 -- each pin is below n
 abbrev pub Below : ℕ → List ℕ → Type 0

@@ -1,4 +1,4 @@
-ghost use Rattle.std.specs.Prelude.{◌≡◌, ℕ, ◌<◌, ◌∷◌, map, length};
+ghost use Rattle.std.specs.Prelude.{◌≡◌, ◌<◌, ◌∷◌, map, length};
 ghost use Rattle.circuit.specs.Gates.{gate_level, inverts, join2, joined};
 ghost use Rattle.circuit.specs.Levels.{pin_level};
 ghost use Rattle.circuit.specs.Rows.{Below};

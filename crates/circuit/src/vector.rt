@@ -1,4 +1,4 @@
-ghost use Rattle.std.specs.Prelude.{◌≡◌, ℕ, ◌≤◌};
+ghost use Rattle.std.specs.Prelude.{◌≡◌};
 ghost use Rattle.circuit.specs.Vectors.{fits, vector_outcome};
 ghost use Rattle.circuit.specs.declared.vector.EvaluationFault.TheVariants.{Vector as OfVector};
 

@@ -17,7 +17,7 @@ pub trait LineValue: Sized + Copy {
 
     ghost knows: { Bool };
 
-    // KNOWS_X, for generic code, which cannot see a constant's value.
+    // KNOWS_X, for generic code.
     fn sees_x() -> bool
         ensures { result ≡ knows };
 

@@ -15,7 +15,7 @@ use Rattle.netlist.specs.declared.statement.State.TheVariants.{Start}
 use Rattle.netlist.specs.declared.statement.Statement.{Statement}
 use Rattle.netlist.specs.declared.statement.Statement.TheVariants.{Empty, Declaration, Gate}
 
--- what `get_or` gives past the last pin
+-- what `slice_index_or` gives past the last pin
 abbrev pub no_span : Span
 no_span = record { offset = 0; len = 0 }
 

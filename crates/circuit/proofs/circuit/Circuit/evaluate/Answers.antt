@@ -1,4 +1,4 @@
-use Rattle.std.proofs.Common.{◌≡◌, true, length, is_ok, Ok, sym, refl, ap, subst}
+use Rattle.std.proofs.Common.{◌≡◌, true, length, is_ok, Ok, sym, refl, ap, subst, arith}
 use Rattle.std.proofs.lemmas.Bool.{both_ways}
 use Rattle.circuit.specs.Levels.{Reads}
 use Rattle.circuit.specs.Rows.{inputs}
@@ -15,7 +15,7 @@ fill-requires g c =
     let took : vector_outcome x (inputs rows) v ≡ Ok tt = taken_by x c.sees_x.result (inputs rows) c.inputs.result v tt c.sees_x.ensures c.inputs.ensures c.in_ok-check_vector.ensures in
     record {
       sound = c.args.self.now.lawful;
-      room = c.if-cells-self.false;
+      room = omega (arith, c.if-cells-self.false);
       fed = taken_long x (inputs rows) v (ap is_ok took);
       fit = taken_fits x (inputs rows) v (ap is_ok took);
     }
@@ -27,7 +27,7 @@ returns g c =
     let x = g.V.LineValue.knows in
     let took : vector_outcome x (inputs rows) v ≡ Ok tt = taken_by x c.sees_x.result (inputs rows) c.inputs.result v tt c.sees_x.ensures c.inputs.ensures c.in_ok-check_vector.ensures in
     record {
-      outcome = sym (evaluates x rows v (length c.args.cells.now) c.if-cells-self.false took);
+      outcome = sym (evaluates x rows v (length c.args.cells.now) (omega (arith, c.if-cells-self.false)) took);
       values = λ _. c.fill.ensures.values;
       readings = λ _. subst (Reads rows v) (sym c.fill.ensures.values) (levels_read rows v c.args.self.now.lawful);
       rest = c.fill.ensures.rest;
