@@ -1,11 +1,11 @@
 -- Lists made row by row.
-use Rattle.std.proofs.Common.{◌≡◌, ℕ, zero, suc, ◌+◌, ◌-◌, ◌<◌, List, [], ◌∷◌, ◌++◌, map, length, get_or, take, drop, set, sym, refl, ap, ◌∙◌, subst, arith}
-use native.Mathlib.Nat.{sub-zero}
-use Rattle.std.proofs.lemmas.List.{at_drop_more, take_more_set, map-append, length-map, length-take-le, take_all, take-take, take_at, length_push, get_or-take, get_or_push}
+use Rattle.std.proofs.Common.{◌≡◌, ℕ, zero, suc, ◌+◌, ◌<◌, cond, List, [], ◌∷◌, ◌++◌, map, length, get_or, take, drop, set, sym, refl, ap, ◌∙◌, subst, arith}
+use Rattle.std.proofs.lemmas.List.{at_drop_more, take_more_set, map-append, length-map, length-take-le, take_all, take-take, take_at, length_push, get_or-drop, get_or-take, get_or_push}
 use Rattle.circuit.specs.declared.row.Row.{Row}
 use Rattle.level.specs.declared.level.Level.{Level}
-use Rattle.circuit.specs.Levels.{build, line_level, row_level}
-use Rattle.circuit.specs.Rows.{row_at, no_row, inputs_before}
+use Rattle.circuit.specs.Kinds.{is_input}
+use Rattle.circuit.specs.Levels.{build, byte_level, gate_of, line_level, pin_level, row_level}
+use Rattle.circuit.specs.Rows.{row_at, no_row, inputs_before, pins_of}
 
 -- one row more
 pub build_more : {A : Type 0} (f : List A → Row → A) (rows : List Row) (past : List A) (i : ℕ) → i < length rows → build f (drop i rows) past ≡ build f (drop (i + 1) rows) (past ++ (f past (row_at rows i) ∷ []))
@@ -16,17 +16,19 @@ pub cells_more : {V A : Type 0} (f : V → A) (cells : List V) (i : ℕ) (x : V)
 cells_more f cells i x h = ap (map f) (take_more_set cells i x h) ∙ map-append f (take i cells) (x ∷ [])
 
 -- one line evaluated: what is left to make is unchanged
-module _ {V : Type 0} (reads : V → Level) (rows : List Row) (v : List ℕ) (cells : List V) (i next : ℕ) (made : V) where
+module _ {V : Type 0} (reads : V → Level) (rows : List Row) (v : List ℕ) (cells : List V) (i : ℕ) (made : V) where
   pub levels_more :
-      i < length rows → i < length cells → next ≡ inputs_before rows i →
-      reads made ≡ row_level (row_at rows i) v next (map reads (take (i - 0) cells)) →
+      i < length rows → i < length cells →
+      reads made ≡ row_level (row_at rows i) (drop (inputs_before rows i) v) 0 (map reads (take i cells)) →
       build (line_level rows v) (drop (i + 1) rows) (map reads (take (i + 1) (set cells i made))) ≡ build (line_level rows v) (drop i rows) (map reads (take i cells))
-  levels_more h room n e =
+  levels_more h room e =
       let past : List Level = map reads (take i cells) in
       let row : Row = row_at rows i in
       let long : length past ≡ i = length-map (take i cells) reads ∙ length-take-le i cells (omega arith) in
-      let place : next ≡ inputs_before rows (length past) = n ∙ ap (λ k. inputs_before rows k) (sym long) in
-      let value : reads made ≡ line_level rows v past row = e ∙ ap (λ k. row_level row v next (map reads (take k cells))) (sub-zero i) ∙ ap (λ k. row_level row v k past) place in
+      let k : ℕ = inputs_before rows i in
+      let place : k + 0 ≡ inputs_before rows (length past) = ap (λ m. inputs_before rows m + 0) (sym long) ∙ omega arith in
+      let byte : get_or (drop k v) 0 0 ≡ get_or v (inputs_before rows (length past)) 0 = get_or-drop k v 0 0 ∙ ap (λ m. get_or v m 0) place in
+      let value : reads made ≡ line_level rows v past row = e ∙ ap (λ b. cond (is_input row.kind) (byte_level b) (gate_of row.kind (map (pin_level past) (pins_of row)))) byte in
       ap (build (line_level rows v) (drop (i + 1) rows)) (cells_more reads cells i made room ∙ ap (λ x. past ++ (x ∷ [])) value) ∙ sym (build_more (line_level rows v) rows past i h)
 
 -- the list so far is the front of the list made

@@ -1,5 +1,5 @@
 -- Marks that hold the cone of a line, and how many bridges they count.
-use Rattle.std.proofs.Common.{◌≡◌, ℕ, ◌+◌, ◌-◌, ◌<◌, ◌≤◌, Bool, false, List, length, get_or, take, drop, Ok, sym, ap, ◌∙◌, arith}
+use Rattle.std.proofs.Common.{◌≡◌, ℕ, ◌+◌, ◌-◌, ◌<◌, ◌≤◌, Bool, false, count_by, List, length, get_or, take, drop, Ok, sym, ap, ◌∙◌, arith}
 use Rattle.std.proofs.lemmas.List.{get_or-take, get_or-drop, length-take-le, length-drop}
 use Rattle.std.proofs.lemmas.Bool.{cond-true, lt-ltb}
 use Rattle.circuit.specs.declared.row.Row.{Row}
@@ -7,7 +7,7 @@ use Rattle.circuit.specs.declared.bridge.Bridge.{Bridge}
 use Rattle.circuit.specs.Bridges.{pairs, high, bridge_outcome}
 use Rattle.circuit.specs.Feedback.{cone, feedback, feedback_bridge, feedback_outcome}
 use Rattle.circuit.specs.Search.{count}
-use Rattle.circuit.proofs.Finds.{count_same, count_split}
+use Rattle.circuit.proofs.Finds.{count_by-count, count_same, count_split}
 use Rattle.circuit.proofs.Numbers.{begin, begin_more, row_bridge, bridge_found, numbered}
 
 module _ (rows : List Row) (u : ℕ) (marks : List Bool) (marked : take (length rows) marks ≡ cone rows u) where
@@ -17,7 +17,7 @@ module _ (rows : List Row) (u : ℕ) (marks : List Bool) (marked : take (length 
   -- the marks past u, `&marks[u + 1..lines]`, count its feedback bridges
   module _ (room : length rows ≤ length marks) (h : u < length rows) where
     pub cone_count :
-        count (begin (length rows) u) (feedback_bridge rows) + count (length (take (length rows - (u + 1)) (drop (u + 1) marks))) (λ k. get_or (take (length rows - (u + 1)) (drop (u + 1) marks)) k false)
+        count (begin (length rows) u) (feedback_bridge rows) + count_by (λ m. m) (take (length rows - (u + 1)) (drop (u + 1) marks))
         ≡ count (begin (length rows) (u + 1)) (feedback_bridge rows)
     cone_count =
         let n : ℕ = length rows in
@@ -30,7 +30,8 @@ module _ (rows : List Row) (u : ℕ) (marks : List Bool) (marked : take (length 
         get_or-take (n - (u + 1)) (drop (u + 1) marks) k false (omega arith) ∙ get_or-drop (u + 1) marks k false ∙ cone_read (u + 1 + k) (omega arith)
         ∙ ap (feedback rows u) (sym ends.1) ∙ ap (λ a. feedback rows a (high n (begin n u + k))) (sym ends.0)
         in
-        ap (λ m. count (begin n u) (feedback_bridge rows) + count m (λ k. get_or part k false)) long
+        ap (λ m. count (begin n u) (feedback_bridge rows) + m) (count_by-count (λ m. m) false part)
+        ∙ ap (λ m. count (begin n u) (feedback_bridge rows) + count m (λ k. get_or part k false)) long
         ∙ ap (λ m. count (begin n u) (feedback_bridge rows) + m) (count_same w _ _ same)
         ∙ sym (count_split (begin n u) w (feedback_bridge rows))
         ∙ ap (λ m. count m (feedback_bridge rows)) (sym (begin_more n u h))

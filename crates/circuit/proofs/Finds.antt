@@ -1,5 +1,7 @@
 -- Laws of the searches over the numbers below n.
-use Rattle.std.proofs.Common.{◌≡◌, ℕ, zero, suc, ◌+◌, ◌<◌, ◌≤◌, Bool, true, false, cond, ◌&&◌, ◌||◌, refl, ap, ◌∙◌, subst, inl, inr, add-one, arith}
+use Rattle.std.proofs.Common.{◌≡◌, ℕ, zero, suc, ◌+◌, ◌<◌, ◌≤◌, Bool, true, false, cond, count_by, ◌&&◌, ◌||◌, List, length, get_or, take, sym, refl, ap, ◌∙◌, subst, inl, inr, add-one, arith}
+use Rattle.std.proofs.lemmas.List.{take_all}
+use Rattle.std.proofs.lemmas.List.Sums.{count_by_more_yes, count_by_more_no}
 use Rattle.std.proofs.lemmas.Bool.{and_parts, and_from, and_left, and_right, or_cases, or_left, or_right, both_ways, cases_lt, cond-true, cond-false, cases_Bool}
 use Rattle.std.proofs.lemmas.Bool.Decides.{nat_tests}
 use Rattle.circuit.specs.Search.{each, some, first, count}
@@ -145,3 +147,18 @@ first_at (suc n) p h =
             | inr off ↦ let none : first (suc n) p ≡ suc n = grind (arith, nat_tests) in absurd (omega arith)
           ]
     ]
+
+-- how many elements in the front of a list pass, by their places
+pub count_by-take : {X : Type 0} (p : X → Bool) (d : X) (xs : List X) (n : ℕ) → n ≤ length xs → count_by p (take n xs) ≡ count n (λ k. p (get_or xs k d))
+count_by-take p d xs zero h = refl
+count_by-take p d xs (suc n) h =
+    let ih = count_by-take p d xs n (omega arith) in
+    let next : n + 1 ≡ suc n = omega arith in
+    subst (λ m. count_by p (take m xs) ≡ count m (λ k. p (get_or xs k d))) next
+    (elim (cases_Bool (p (get_or xs n d))) [
+      | inl e ↦ count_by_more_yes p xs n d (omega arith) e ∙ count_one n (count_by p (take n xs)) (λ k. p (get_or xs k d)) e ih
+      | inr e ↦ count_by_more_no p xs n d (omega arith) e ∙ count_none n (count_by p (take n xs)) (λ k. p (get_or xs k d)) e ih
+    ])
+
+pub count_by-count : {X : Type 0} (p : X → Bool) (d : X) (xs : List X) → count_by p xs ≡ count (length xs) (λ k. p (get_or xs k d))
+count_by-count p d xs = ap (count_by p) (sym (take_all (length xs) xs (omega arith))) ∙ count_by-take p d xs (length xs) (omega arith)

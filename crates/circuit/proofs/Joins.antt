@@ -1,12 +1,13 @@
 -- A gate takes in its pins one after another.
-use Rattle.std.proofs.Common.{◌≡◌, ℕ, ◌+◌, ◌-◌, ◌<◌, Bool, true, false, cond, not, List, [], ◌∷◌, map, length, get_or, take, drop, sym, refl, ap, ◌∙◌, arith}
-use Rattle.std.proofs.lemmas.List.{at_drop_more, get_or-map, drop_more, take_rest, get_or-drop, length-drop}
+use Rattle.std.proofs.Common.{◌≡◌, ℕ, ◌-◌, ◌<◌, Bool, true, false, cond, not, List, [], ◌∷◌, fold, map, length, get_or, take, drop, sym, refl, ap, ◌∙◌}
+use Rattle.std.specs.List.{list_any}
+use Rattle.std.proofs.lemmas.List.{get_or-map, drop_more, take_rest}
 use Rattle.level.specs.declared.level.Level.{Level}
 use Rattle.level.specs.declared.level.Level.TheVariants.{Zero, One, X}
 use Rattle.level.specs.Tables.{not3, and3, or3, xor3}
 use Rattle.circuit.specs.declared.kind.Kind.{Kind}
 use Rattle.circuit.specs.declared.kind.Kind.TheVariants.{Input, And, Nand, Or, Nor, Xor, Xnor, Not, Buff}
-use Rattle.circuit.specs.Gates.{and_of, or_of, xor_of, join2, joined, gate_level, inverts, odd_ones, any_pin, is_x}
+use Rattle.circuit.specs.Gates.{and_of, or_of, xor_of, joined, gate_level, inverts, odd_ones, is_x}
 use Rattle.circuit.specs.Levels.{pin_level}
 use Rattle.circuit.specs.Rows.{Below}
 
@@ -35,24 +36,28 @@ not_not false = refl
 xor_joins : (a b : Level) (ls : List Level) → xor_of (a ∷ (b ∷ ls)) ≡ xor_of (xor3 a b ∷ ls)
 xor_joins Zero b ls = refl
 xor_joins One Zero ls = refl
-xor_joins One One ls = ap (λ t. cond (any_pin is_x ls) X (cond t One Zero)) (not_not (odd_ones ls))
+xor_joins One One ls = ap (λ t. cond (list_any is_x ls) X (cond t One Zero)) (not_not (odd_ones ls))
 xor_joins One X ls = refl
 xor_joins X b ls = refl
 
-pub joins_two : (k : Kind) (a b : Level) (ls : List Level) → joined k (a ∷ (b ∷ ls)) ≡ joined k (join2 k a b ∷ ls)
-joins_two And a b ls = and_joins a b ls
-joins_two Nand a b ls = and_joins a b ls
-joins_two Or a b ls = or_joins a b ls
-joins_two Nor a b ls = or_joins a b ls
-joins_two Xor a b ls = xor_joins a b ls
-joins_two Xnor a b ls = xor_joins a b ls
-joins_two Not a b ls = refl
-joins_two Buff a b ls = refl
-joins_two Input a b ls = refl
+-- a gate's first reading, joined with the others one after another
+pub fold_and : (a : Level) (ls : List Level) → fold and3 a ls ≡ and_of (a ∷ ls)
+fold_and Zero [] = refl
+fold_and One [] = refl
+fold_and X [] = refl
+fold_and a (b ∷ ls) = fold_and (and3 a b) ls ∙ sym (and_joins a b ls)
 
--- one pin more
-pub joins_more : (k : Kind) (past : List Level) (ps : List ℕ) (a : Level) (i : ℕ) → i < length ps → joined k (a ∷ map (pin_level past) (drop i ps)) ≡ joined k (join2 k a (pin_level past (get_or ps i 0)) ∷ map (pin_level past) (drop (i + 1) ps))
-joins_more k past ps a i h = at_drop_more (λ l. joined k (a ∷ map (pin_level past) l)) ps i 0 h ∙ joins_two k a _ _
+pub fold_or : (a : Level) (ls : List Level) → fold or3 a ls ≡ or_of (a ∷ ls)
+fold_or Zero [] = refl
+fold_or One [] = refl
+fold_or X [] = refl
+fold_or a (b ∷ ls) = fold_or (or3 a b) ls ∙ sym (or_joins a b ls)
+
+pub fold_xor : (a : Level) (ls : List Level) → fold xor3 a ls ≡ xor_of (a ∷ ls)
+fold_xor Zero [] = refl
+fold_xor One [] = refl
+fold_xor X [] = refl
+fold_xor a (b ∷ ls) = fold_xor (xor3 a b) ls ∙ sym (xor_joins a b ls)
 
 -- and inverted at the end
 pub gate_joined : (k : Kind) (ls : List Level) → gate_level k ls ≡ cond (inverts k) (not3 (joined k ls)) (joined k ls)
@@ -67,35 +72,17 @@ gate_joined Buff ls = refl
 gate_joined Input ls = refl
 
 -- a cell that was read
-pub cell_level : {V : Type 0} (f : V → Level) (cells : List V) (p : ℕ) (x : V) → p < length cells → x ≡ get_or cells p x → f x ≡ pin_level (map f cells) p
+cell_level : {V : Type 0} (f : V → Level) (cells : List V) (p : ℕ) (x : V) → p < length cells → x ≡ get_or cells p x → f x ≡ pin_level (map f cells) p
 cell_level f cells p x h e = ap f e ∙ sym (get_or-map f cells p x X h)
 
-pub joined_one : (k : Kind) (a : Level) → joined k (a ∷ []) ≡ a
-joined_one And Zero = refl
-joined_one And One = refl
-joined_one And X = refl
-joined_one Nand Zero = refl
-joined_one Nand One = refl
-joined_one Nand X = refl
-joined_one Or Zero = refl
-joined_one Or One = refl
-joined_one Or X = refl
-joined_one Nor Zero = refl
-joined_one Nor One = refl
-joined_one Nor X = refl
-joined_one Xor Zero = refl
-joined_one Xor One = refl
-joined_one Xor X = refl
-joined_one Xnor Zero = refl
-joined_one Xnor One = refl
-joined_one Xnor X = refl
-joined_one Not a = refl
-joined_one Buff a = refl
-joined_one Input a = refl
-
 -- the first pin and `&pins[1..]`
-pub pins_split : {A : Type 0} (f : ℕ → A) (ps : List ℕ) → 0 < length ps → map f ps ≡ f (get_or ps 0 0) ∷ map f (take (length ps - 1) (drop 1 ps))
+pins_split : {A : Type 0} (f : ℕ → A) (ps : List ℕ) → 0 < length ps → map f ps ≡ f (get_or ps 0 0) ∷ map f (take (length ps - 1) (drop 1 ps))
 pins_split f ps h = ap (map f) (drop_more ps 0 0 h) ∙ ap (λ l. f (get_or ps 0 0) ∷ map f l) (sym (take_rest ps 1))
 
-pub rest_below : (n : ℕ) (ps : List ℕ) → Below n ps → Below n (take (length ps - 1) (drop 1 ps))
-rest_below n ps f = rw take_rest (λ j h. rw get_or-drop (f (1 + j) (omega (arith, h, length-drop 1 ps))))
+-- the first cell's reading and those of the other pins, joined
+pub pins_joined : {V : Type 0} (reads : V → Level) (cells : List V) (pins : List ℕ) (x : V) (r : Level) (table : Level → Level → Level) (of : List Level → Level) → ((a : Level) (ls : List Level) → fold table a ls ≡ of (a ∷ ls)) → 0 < length pins → Below (length cells) pins → x ≡ get_or cells (get_or pins 0 0) x → r ≡ fold table (reads x) (map (pin_level (map reads cells)) (take (length pins - 1) (drop 1 pins))) → r ≡ of (map (pin_level (map reads cells)) pins)
+pins_joined reads cells pins x r table of folds some below at e =
+    let level = pin_level (map reads cells) in
+    let rest : List Level = map level (take (length pins - 1) (drop 1 pins)) in
+    let first = cell_level reads cells (get_or pins 0 0) x (below 0 0 some) at in
+    e ∙ folds (reads x) rest ∙ ap (λ a. of (a ∷ rest)) first ∙ ap of (sym (pins_split level pins some))

@@ -1,6 +1,7 @@
 -- The levels of a lawful circuit are readings in which every line reads as its kind says.
-use Rattle.std.proofs.Common.{◌≡◌, ℕ, suc, ◌<◌, true, false, cond, List, [], ◌∷◌, map, length, get_or, take, Some, Option, sym, refl, ap, ◌∙◌, subst, arith}
+use Rattle.std.proofs.Common.{◌≡◌, ℕ, ◌<◌, true, false, cond, List, [], ◌∷◌, map, length, get_or, take, Some, Option, sym, refl, ap, ◌∙◌, subst, arith}
 use Rattle.std.proofs.lemmas.List.{get_or-take, length-take-le}
+use Rattle.std.proofs.lemmas.List.Elements.{All-head, All-tail}
 use Rattle.level.specs.declared.level.Level.{Level}
 use Rattle.level.specs.declared.level.Level.TheVariants.{X}
 use Rattle.circuit.specs.declared.kind.Kind.{Kind}
@@ -16,8 +17,8 @@ use Rattle.circuit.proofs.Laws.{lawful_row, row_below}
 pub map_below : {A : Type 0} (f g : ℕ → A) (n : ℕ) (ps : List ℕ) → ((p : ℕ) → p < n → f p ≡ g p) → Below n ps → map f ps ≡ map g ps
 map_below f g n [] same below = refl
 map_below f g n (p ∷ ps) same below =
-    let here = same p (below 0 (omega arith)) in
-    let rest = map_below f g n ps same (λ j h. below (suc j) (omega arith)) in
+    let here = same p (All-head (λ p. p < n) p ps below) in
+    let rest = map_below f g n ps same (All-tail (λ p. p < n) p ps below) in
     cc
 
 no_gate_input : (k : Kind) → is_gate (Some k) ≡ true → is_input (Some k) ≡ false

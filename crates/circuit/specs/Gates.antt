@@ -1,8 +1,9 @@
 -- What a gate reads from its pins' readings.
-use Rattle.std.specs.Prelude.{Bool, true, false, cond, not, ◌&&◌, ◌||◌, List, [], ◌∷◌}
+use Rattle.std.specs.Prelude.{Bool, true, false, if◌then◌else◌, not, List, [], ◌∷◌}
+use Rattle.std.specs.List.{list_all, list_any}
 use Rattle.level.specs.declared.level.Level.{Level}
 use Rattle.level.specs.declared.level.Level.TheVariants.{Zero, One, X}
-use Rattle.level.specs.Tables.{not3, and3, or3, xor3}
+use Rattle.level.specs.Tables.{not3}
 use Rattle.circuit.specs.declared.kind.Kind.{Kind}
 use Rattle.circuit.specs.declared.kind.Kind.TheVariants.{Input, And, Nand, Or, Nor, Xor, Xnor, Not, Buff}
 
@@ -21,30 +22,22 @@ is_x Zero = false
 is_x One = false
 is_x X = true
 
-abbrev pub any_pin : (Level → Bool) → List Level → Bool
-any_pin p [] = false
-any_pin p (a ∷ ls) = p a || any_pin p ls
-
-abbrev pub all_pins : (Level → Bool) → List Level → Bool
-all_pins p [] = true
-all_pins p (a ∷ ls) = p a && all_pins p ls
-
 -- an odd number of ones
 abbrev pub odd_ones : List Level → Bool
 odd_ones [] = false
-odd_ones (a ∷ ls) = cond (is_one a) (not (odd_ones ls)) (odd_ones ls)
+odd_ones (a ∷ ls) = if is_one a then not (odd_ones ls) else odd_ones ls
 
 -- 0 if a pin is 0, else 1 if all are 1, else X
 abbrev pub and_of : List Level → Level
-and_of ls = cond (any_pin is_zero ls) Zero (cond (all_pins is_one ls) One X)
+and_of ls = if list_any is_zero ls then Zero else if list_all is_one ls then One else X
 
 -- 1 if a pin is 1, else 0 if all are 0, else X
 abbrev pub or_of : List Level → Level
-or_of ls = cond (any_pin is_one ls) One (cond (all_pins is_zero ls) Zero X)
+or_of ls = if list_any is_one ls then One else if list_all is_zero ls then Zero else X
 
 -- X if a pin is X, else 1 exactly for an odd number of ones
 abbrev pub xor_of : List Level → Level
-xor_of ls = cond (any_pin is_x ls) X (cond (odd_ones ls) One Zero)
+xor_of ls = if list_any is_x ls then X else if odd_ones ls then One else Zero
 
 -- the reading of a single pin
 abbrev pub only : List Level → Level
@@ -63,18 +56,7 @@ gate_level Not ls = not3 (only ls)
 gate_level Buff ls = only ls
 gate_level Input ls = only ls
 
--- the same for two readings, by which a gate takes in its pins one after another
-abbrev pub join2 : Kind → Level → Level → Level
-join2 And a b = and3 a b
-join2 Nand a b = and3 a b
-join2 Or a b = or3 a b
-join2 Nor a b = or3 a b
-join2 Xor a b = xor3 a b
-join2 Xnor a b = xor3 a b
-join2 Not a b = a
-join2 Buff a b = a
-join2 Input a b = a
-
+-- whether a gate inverts what its pins come to
 abbrev pub inverts : Kind → Bool
 inverts And = false
 inverts Nand = true

@@ -4,6 +4,7 @@ ghost use Rattle.std.specs.Prelude.{◌≡◌, true};
 use crate::row::Row;
 
 mod bridges;
+mod cone;
 mod counts;
 mod evaluating;
 mod taking;

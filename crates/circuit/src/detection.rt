@@ -13,14 +13,18 @@ fn is_opposed<V: LineValue>(a: V, b: V) -> bool
     a.read().opposes(b.read())
 }
 
+fn is_read_opposed<V: LineValue>(bridge: Bridge, cells: &[V]) -> Option<bool>
+    ensures { result ≡ detected_in (map V.reads cells.now) bridge.low bridge.high }
+{
+    let (low, high) = (cells.get(bridge.low)?, cells.get(bridge.high)?);
+    Some(is_opposed(*low, *high))
+}
+
 // Whether one line of the bridge reads 0 and the other 1; none where a line has no cell. Where the
 // cells hold what a circuit reads under a vector, that vector detects the bridge exactly then.
 pub fn is_detected<V: LineValue>(bridge: Bridge, cells: &[V]) -> Option<bool>
     ensures value { result ≡ detected_in (map V.reads cells.now) bridge.low bridge.high }
     ensures vector { (rows : List Row) (w : List ℕ) → map V.reads (take (length rows) cells.now) ≡ levels rows w → bridge.low < length rows → bridge.high < length rows → result ≡ Known (detects_lines rows w bridge.low bridge.high) }
 {
-    if bridge.low >= cells.len() || bridge.high >= cells.len() {
-        return None;
-    }
-    Some(is_opposed(cells[bridge.low], cells[bridge.high]))
+    is_read_opposed(bridge, cells)
 }

@@ -1,7 +1,8 @@
-ghost use Rattle.std.specs.Prelude.{◌≡◌, ◌<◌, ◌∷◌, map, length};
-ghost use Rattle.circuit.specs.Gates.{gate_level, inverts, join2, joined};
+ghost use Rattle.std.specs.Prelude.{◌≡◌, ◌<◌, fold, map, length};
+ghost use Rattle.circuit.specs.Gates.{gate_level, inverts, joined};
 ghost use Rattle.circuit.specs.Levels.{pin_level};
 ghost use Rattle.circuit.specs.Rows.{Below};
+ghost use Rattle.level.specs.declared.level.Level.{Level};
 
 use crate::kind::Kind;
 use level::line_value::LineValue;
@@ -12,27 +13,35 @@ fn is_inverting(kind: Kind) -> bool
     matches!(kind, Kind::Nand | Kind::Nor | Kind::Xnor | Kind::Not)
 }
 
-fn join<V: LineValue>(kind: Kind, a: V, b: V) -> V
-    ensures { V.reads result ≡ join2 kind (V.reads a) (V.reads b) }
-{
-    match kind {
-        Kind::And | Kind::Nand => a.and(b),
-        Kind::Or | Kind::Nor => a.or(b),
-        Kind::Xor | Kind::Xnor => a.xor(b),
-        Kind::Not | Kind::Buff | Kind::Input => a,
-    }
-}
-
-// The first pin's value joined with those of the rest.
-fn join_all<V: LineValue>(kind: Kind, first: V, rest: &[u16], cells: &[V]) -> V
-    requires { Below (length cells.now) rest.now }
-    ensures { V.reads result ≡ joined kind (V.reads first ∷ map (pin_level (map V.reads cells.now)) rest.now) }
+// The first value joined with those of the rest, one after another.
+fn join<V: LineValue, F: Fn(V, V) -> V>(op: F, first: V, rest: &[u16], cells: &[V]) -> V
+    requires callable { F.IsAlwaysCallable op }
+    requires below { Below (length cells.now) rest.now }
+    ensures { (table : Level → Level → Level) → ((a b c : V) → F.post op a b c → V.reads c ≡ table (V.reads a) (V.reads b)) → V.reads result ≡ fold table (V.reads first) (map (pin_level (map V.reads cells.now)) rest.now) }
 {
     let mut all = first;
     for pin in rest {
-        all = join(kind, all, cells[*pin as usize]);
+        all = op(all, cells[*pin as usize]);
     }
     all
+}
+
+// What the pins come to before a gate inverts.
+fn join_all<V: LineValue>(kind: Kind, pins: &[u16], cells: &[V]) -> V
+    requires some { 0 < length pins.now }
+    requires below { Below (length cells.now) pins.now }
+    ensures { V.reads result ≡ joined kind (map (pin_level (map V.reads cells.now)) pins.now) }
+{
+    let [pin, rest @ ..] = pins else {
+        unreachable!()
+    };
+    let first = cells[*pin as usize];
+    match kind {
+        Kind::And | Kind::Nand => join(V::and, first, rest, cells),
+        Kind::Or | Kind::Nor => join(V::or, first, rest, cells),
+        Kind::Xor | Kind::Xnor => join(V::xor, first, rest, cells),
+        Kind::Not | Kind::Buff | Kind::Input => first,
+    }
 }
 
 // What a gate drives, from the values of the lines before it.
@@ -41,6 +50,6 @@ pub(crate) fn gate<V: LineValue>(kind: Kind, pins: &[u16], cells: &[V]) -> V
     requires below { Below (length cells.now) pins.now }
     ensures { V.reads result ≡ gate_level kind (map (pin_level (map V.reads cells.now)) pins.now) }
 {
-    let all = join_all(kind, cells[pins[0] as usize], &pins[1..], cells);
+    let all = join_all(kind, pins, cells);
     if is_inverting(kind) { all.not() } else { all }
 }

@@ -23,7 +23,7 @@ impl Kind {
         match self {
             Kind::Input => true,
             Kind::Not | Kind::Buff => pins == 1,
-            _ => 2 <= pins && pins <= 8,
+            _ => (2..=8).contains(&pins),
         }
     }
 }

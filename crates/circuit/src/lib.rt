@@ -4,7 +4,6 @@
 
 pub mod bridge;
 pub mod circuit;
-mod cone;
 pub mod detection;
 mod evaluation;
 mod gate;

@@ -1,5 +1,7 @@
-ghost use Rattle.circuit.specs.Refusals.{refusal_of, layer_name};
-ghost use Rattle.std.specs.Prelude.{◌≡◌};
+ghost use Rattle.circuit.specs.Refusals.{layer_name, refusal_of, refusal_text};
+ghost use Rattle.std.specs.Prelude.{◌≡◌, Some};
+
+use std::fmt;
 
 // The layer that a refusal rose in.
 #[derive(Clone, Copy, PartialEq, Eq, Debug)]
@@ -25,12 +27,34 @@ impl Layer {
     }
 }
 
-// A refusal as it is printed: docs/refusals.md has the numbers and the places.
+impl fmt::Display for Layer {
+    ghost output = { λ l. Some (layer_name l) };
+
+    fn fmt<W: fmt::Write>(&self, f: &mut fmt::Formatter<W>) -> fmt::Result {
+        let name = self.name();
+        write!(f, "{name}")
+    }
+}
+
+// A refusal: docs/refusals.md has the numbers and the places.
 #[derive(Clone, Copy, PartialEq, Eq, Debug)]
 pub struct Refusal {
     pub number: u8,
     pub place: usize,
     pub layer: Layer,
+}
+
+impl fmt::Display for Refusal {
+    ghost output = { λ r. Some (refusal_text r) };
+
+    fn fmt<W: fmt::Write>(&self, f: &mut fmt::Formatter<W>) -> fmt::Result {
+        let Refusal {
+            number,
+            place,
+            layer,
+        } = *self;
+        write!(f, "refused {number} at {place} in {layer}")
+    }
 }
 
 // Why a circuit does not answer.
@@ -40,21 +64,18 @@ pub enum CircuitFault {
     NoBridge { bridge: usize },
 }
 
-impl CircuitFault {
-    pub fn refusal(self) -> Refusal
-        ensures { result ≡ refusal_of self }
-    {
-        match self {
-            CircuitFault::NoLine { line } => Refusal {
-                number: 17,
-                place: line,
-                layer: Layer::Circuit,
-            },
-            CircuitFault::NoBridge { bridge } => Refusal {
-                number: 17,
-                place: bridge,
-                layer: Layer::Circuit,
-            },
+impl From<CircuitFault> for Refusal {
+    ghost from_gives = { λ e r. r ≡ refusal_of e };
+
+    fn from(fault: CircuitFault) -> Self {
+        let place = match fault {
+            CircuitFault::NoLine { line } => line,
+            CircuitFault::NoBridge { bridge } => bridge,
+        };
+        Refusal {
+            number: 17,
+            place,
+            layer: Layer::Circuit,
         }
     }
 }

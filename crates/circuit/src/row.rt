@@ -12,7 +12,7 @@ pub struct Span {
 }
 
 // One line of the netlist. A blank row has no kind, and zeros.
-#[derive(Clone, Copy)]
+#[derive(Clone, Copy, PartialEq, Eq, Debug)]
 pub struct Row {
     pub kind: Option<Kind>,
     pub count: u8,
@@ -47,14 +47,8 @@ impl Row {
         ensures { result.now ≡ pins_of self.now }
     {
         match self.kind {
-            None | Some(Kind::Input) => &self.pins[0..0],
-            Some(_) => {
-                if self.count <= 8 {
-                    &self.pins[0..self.count as usize]
-                } else {
-                    &self.pins[0..8]
-                }
-            }
+            None | Some(Kind::Input) => &[],
+            Some(_) => &self.pins[..usize::from(self.count).min(8)],
         }
     }
 }
@@ -62,11 +56,5 @@ impl Row {
 pub fn input_count(rows: &[Row]) -> usize
     ensures { result ≡ inputs rows.now }
 {
-    let mut count = 0;
-    for row in rows {
-        if row.is_input() {
-            count += 1;
-        }
-    }
-    count
+    rows.iter().filter(|row| row.is_input()).count()
 }

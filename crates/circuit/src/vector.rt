@@ -1,5 +1,5 @@
 ghost use Rattle.std.specs.Prelude.{◌≡◌};
-ghost use Rattle.circuit.specs.Vectors.{fits, vector_outcome};
+ghost use Rattle.circuit.specs.Vectors.{bad_at, fits, vector_outcome};
 ghost use Rattle.circuit.specs.declared.vector.EvaluationFault.TheVariants.{Vector as OfVector};
 
 // Why a vector is not taken.
@@ -34,6 +34,12 @@ fn is_allowed(byte: u8, x_allowed: bool) -> bool
     }
 }
 
+fn first_bad(vector: &[u8], x_allowed: bool) -> Option<usize>
+    ensures { result ≡ bad_at x_allowed vector.now }
+{
+    vector.iter().position(|byte| !is_allowed(*byte, x_allowed))
+}
+
 // Whether the vector has a byte for each input, each 0, 1, or X where that is allowed.
 pub fn check_vector(vector: &[u8], inputs: usize, x_allowed: bool) -> Result<(), VectorFault>
     ensures { result ≡ vector_outcome x_allowed inputs vector.now }
@@ -43,10 +49,8 @@ pub fn check_vector(vector: &[u8], inputs: usize, x_allowed: bool) -> Result<(),
             length: vector.len(),
         });
     }
-    for (index, byte) in vector.iter().enumerate() {
-        if !is_allowed(*byte, x_allowed) {
-            return Err(VectorFault::Byte { index });
-        }
+    match first_bad(vector, x_allowed) {
+        Some(index) => Err(VectorFault::Byte { index }),
+        None => Ok(()),
     }
-    Ok(())
 }

@@ -1,5 +1,6 @@
 -- What a planted head answers.
 use Rattle.std.proofs.Common.{◌≡◌, ℕ, ◌<◌, ◌≤◌, Bool, true, false, cond, ◌&&◌, eqb, ltb, List, length, get_or, is_ok, Some, Ok, Err, sym, refl, ap, ◌∙◌, subst, inl, inr}
+use Rattle.std.proofs.lemmas.List.Elements.{All-from_get_or}
 use Rattle.std.proofs.lemmas.Bool.{and_left, and_right, and_from, eq-eqb, lt-ltb, le-leb, lt-leb, eqb-true, cond-true, cond-false, not_from_true, or_cases, both_ways, cases_lt}
 use Rattle.circuit.specs.declared.row.Row.{Row}
 use Rattle.circuit.specs.declared.bridge.Bridge.{Bridge}
@@ -32,7 +33,7 @@ fits_any x b e =
 
 -- so each kind of value takes a vector of them
 taken_any : (x : Bool) (m : ℕ) (v : List ℕ) → length v ≡ m → binary v ≡ true → vector_outcome x m v ≡ Ok tt
-taken_any x m v l e = takes_vector x m v l (λ j h. not_from_true _ (fits_any x (get_or v j 0) (each_at (length v) (λ k. binary_byte (get_or v k 0)) e j h)))
+taken_any x m v l e = takes_vector x m v l (All-from_get_or (λ b. fits x b ≡ true) v 0 (λ j h. fits_any x (get_or v j 0) (each_at (length v) (λ k. binary_byte (get_or v k 0)) e j h)))
 
 module _ (rows : List Row) (β cells : ℕ) (v : List ℕ) (wide : eqb (length v) (inputs rows) ≡ true) where
   pub planted_open : (ready rows β cells && binary v) ≡ false → Err (Open 0) ≡ measured (planted rows β cells) v

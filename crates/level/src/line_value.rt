@@ -13,17 +13,13 @@ pub trait LineValue: Sized + Copy {
     // Whether the kind has a value that reads X. It holds for all values of the kind.
     const KNOWS_X: bool;
 
+    ghost KNOWS_X: { Bool };
+
     ghost reads: { Self → Reading };
-
-    ghost knows: { Bool };
-
-    // KNOWS_X, for generic code.
-    fn sees_x() -> bool
-        ensures { result ≡ knows };
 
     // The value of an ASCII byte of a vector, 0, 1 or X; none where the kind has no such value.
     fn make(byte: u8) -> Option<Self>
-        ensures { option_map reads result ≡ allowed knows byte };
+        ensures { option_map reads result ≡ allowed KNOWS_X byte };
 
     fn read(self) -> Level
         ensures { result ≡ reads self };
@@ -40,5 +36,5 @@ pub trait LineValue: Sized + Copy {
     fn xor(self, other: Self) -> Self
         ensures { reads result ≡ xor3 (reads self) (reads other) };
 
-    ghost never: { (v : Self) → knows ≡ false → reads v ≢ undriven };
+    ghost never: { (v : Self) → KNOWS_X ≡ false → reads v ≢ undriven };
 }

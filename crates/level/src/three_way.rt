@@ -5,85 +5,60 @@ ghost use Rattle.std.proofs.Common.{rules};
 use crate::level::Level;
 use crate::line_value::LineValue;
 
-// The three-way kind: a line may be undriven, and then `high` says nothing.
+// The three-way kind: a line is driven high or low, or it is not driven.
 #[derive(Clone, Copy)]
-pub struct ThreeWay {
-    driven: bool,
-    high: bool,
-}
-
-const ZERO: ThreeWay = ThreeWay {
-    driven: true,
-    high: false,
-};
-
-const ONE: ThreeWay = ThreeWay {
-    driven: true,
-    high: true,
-};
-
-const UNDRIVEN: ThreeWay = ThreeWay {
-    driven: false,
-    high: false,
-};
+pub struct ThreeWay(Option<bool>);
 
 impl LineValue for ThreeWay {
     const KNOWS_X: bool = true;
 
-    ghost reads = { reads3 };
+    ghost KNOWS_X = { true };
 
-    ghost knows = { true };
+    ghost reads = { reads3 };
 
     ghost never = { Prim.search rules };
 
-    fn sees_x() -> bool {
-        Self::KNOWS_X
-    }
-
     fn make(byte: u8) -> Option<Self> {
         match byte {
-            b'0' => Some(ZERO),
-            b'1' => Some(ONE),
-            b'X' => Some(UNDRIVEN),
+            b'0' => Some(ThreeWay(Some(false))),
+            b'1' => Some(ThreeWay(Some(true))),
+            b'X' => Some(ThreeWay(None)),
             _ => None,
         }
     }
 
     fn read(self) -> Level {
-        match (self.driven, self.high) {
-            (true, true) => Level::One,
-            (true, false) => Level::Zero,
-            (false, _) => Level::X,
+        match self.0 {
+            Some(true) => Level::One,
+            Some(false) => Level::Zero,
+            None => Level::X,
         }
     }
 
     fn not(self) -> Self {
-        ThreeWay {
-            driven: self.driven,
-            high: !self.high,
-        }
+        ThreeWay(self.0.map(|high| !high))
     }
 
     fn and(self, other: Self) -> Self {
-        let held = (self.driven & !self.high) | (other.driven & !other.high);
-        ThreeWay {
-            driven: held | (self.driven & other.driven),
-            high: self.high & other.high,
-        }
+        ThreeWay(match (self.0, other.0) {
+            (Some(a), Some(b)) => Some(a & b),
+            (Some(false), None) | (None, Some(false)) => Some(false),
+            _ => None,
+        })
     }
 
     fn or(self, other: Self) -> Self {
-        let held = (self.driven & self.high) | (other.driven & other.high);
-        ThreeWay {
-            driven: held | (self.driven & other.driven),
-            high: self.high | other.high,
-        }
+        ThreeWay(match (self.0, other.0) {
+            (Some(a), Some(b)) => Some(a | b),
+            (Some(true), None) | (None, Some(true)) => Some(true),
+            _ => None,
+        })
     }
 
     fn xor(self, other: Self) -> Self {
-        ThreeWay {
-            driven: self.driven & other.driven,
-            high: self.high != other.high,
-        }
+        ThreeWay(match (self.0, other.0) {
+            (Some(a), Some(b)) => Some(a != b),
+            _ => None,
+        })
     }
 }

@@ -12,15 +12,11 @@ pub struct TwoWay(bool);
 impl LineValue for TwoWay {
     const KNOWS_X: bool = false;
 
+    ghost KNOWS_X = { false };
+
     ghost reads = { reads2 };
 
-    ghost knows = { false };
-
     ghost never = { Prim.search rules };
-
-    fn sees_x() -> bool {
-        Self::KNOWS_X
-    }
 
     fn make(byte: u8) -> Option<Self> {
         match byte {

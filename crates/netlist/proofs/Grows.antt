@@ -2,6 +2,7 @@
 use Rattle.std.proofs.Common.{◌≡◌, ℕ, ◌+◌, ◌<◌, ◌≤◌, true, false, cond, eqb, leb, List, [], ◌∷◌, ◌++◌, length, get_or, take, set, replicate, is_some, IfSome, Some, None, Ok, Err, codes, Option, Result, sym, refl, subst, inl, inr, arith, length-set}
 use Rattle.std.specs.List.{AllByRecursion}
 use Rattle.std.specs.Str.{bytes_eq}
+use Rattle.std.proofs.lemmas.List.Elements.{All-from_get_or, All-nil}
 use Rattle.std.proofs.lemmas.List.{length-take, get_or-take, get_or-set_same, get_or-set_other}
 use Rattle.std.proofs.lemmas.Bool.{cond_both, and_parts, leb-true, leb-false, eqb-true, both_ways, cases_eq}
 use Rattle.circuit.specs.Kinds.{takes, is_input, is_gate}
@@ -110,12 +111,12 @@ module _ (text : List ℕ) (rows : List Row) where
   pins_within : (kind : Kind) (ps : Pins) (ns : List ℕ) → length ps.spans ≡ 8 → takes kind ps.count ≡ true → SetBelow rows (0 + length (used_of ps)) ns → Below (length rows) (cond (is_gate (Some kind)) (take ps.count ns) [])
   pins_within kind ps ns eight e f =
       cond_both (is_gate (Some kind)) (take ps.count ns) [] (Below (length rows))
-      (λ g j h.
+      (λ g. All-from_get_or (λ m. m < length rows) (take ps.count ns) 0 (λ j h.
       let c : ps.count ≤ 8 = at_most_eight kind ps.count g e in
       let low : j < ps.count = omega (arith, length-take ps.count ns) in
       let used : j < 0 + length (used_of ps) = omega (arith, length-take ps.count ps.spans) in
-      subst (λ m. m < length rows) (sym (get_or-take ps.count ns j 0 low)) (f j used))
-      (λ g j h. omega arith)
+      subst (λ m. m < length rows) (sym (get_or-take ps.count ns j 0 low)) (f j used)))
+      (λ g. All-nil (λ m. m < length rows))
 
   gate_fresh : (kind : Kind) (l : Span) (ps : Pins) (r : Result (List ℕ) NetlistFault) → is_input (Some kind) ≡ false → takes kind ps.count ≡ true → line_of text rows l ≡ None → NameIn text l → length ps.spans ≡ 8 → Accepted r (SetBelow rows (0 + length (used_of ps))) → Accepted (gate_row kind ps.count l r) (Fresh text rows)
   gate_fresh kind l ps (Ok ns) off e new n eight f =

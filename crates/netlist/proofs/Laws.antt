@@ -1,13 +1,12 @@
 -- The laws of the lines of an accepted text.
-use Rattle.std.proofs.Common.{◌≡◌, ℕ, ◌+◌, ◌<◌, Bool, true, cond, List, [], ◌∷◌, ◌++◌, length, set, is_some, Some, None, Ok, Option, sym, refl, ap, ◌∙◌, subst, inl, inr, arith, length-set}
+use Rattle.std.proofs.Common.{◌≡◌, ℕ, ◌+◌, ◌<◌, true, cond, List, [], ◌∷◌, ◌++◌, length, set, is_some, Some, None, Ok, Option, sym, refl, ap, ◌∙◌, subst, inl, inr, arith, length-set}
 use Rattle.std.proofs.lemmas.List.{length_push, get_or_push, get_or_append_left, get_or-set_same, get_or-set_other}
+use Rattle.std.proofs.lemmas.List.Sums.{sum_by-append, sum_by-set}
 use Rattle.std.proofs.lemmas.Bool.{cases_eq, cases_lt, cases_Bool, cond-true, cond-false}
 use Rattle.circuit.specs.Kinds.{is_input}
 use Rattle.circuit.specs.Rows.{no_row, row_at, named, pins_of, counted, inputs, lawful, Below, Lawful}
-use Rattle.circuit.specs.Search.{count}
 use Rattle.circuit.specs.declared.kind.Kind.{Kind}
 use Rattle.circuit.specs.declared.row.Row.{Row}
-use Rattle.circuit.proofs.Finds.{count_more, count_same}
 use Rattle.circuit.proofs.Takes.{words_lawful}
 use Rattle.netlist.specs.Accepted.{Accepted, NameIn}
 use Rattle.netlist.specs.Names.{name_of}
@@ -33,12 +32,7 @@ module _ (rows : List Row) (row : Row) where
       ]
 
   inputs_push : inputs (rows ++ row ∷ []) ≡ cond (is_input row.kind) 1 0 + inputs rows
-  inputs_push =
-      let more = rows ++ row ∷ [] in
-      let p : ℕ → Bool = λ k. is_input (row_at more k).kind in
-      ap (λ n. count n p) (length_push rows row) ∙ count_more (length rows) p
-      ∙ ap (λ (r : Row). cond (is_input r.kind) 1 0 + count (length rows) p) row_last
-      ∙ ap (λ n. cond (is_input row.kind) 1 0 + n) (count_same (length rows) p (λ k. is_input (row_at rows k).kind) (λ k h. ap (λ (r : Row). is_input r.kind) (row_before k h)))
+  inputs_push = omega (arith, sum_by-append (λ (r : Row). cond (is_input r.kind) 1 0) rows (row ∷ []))
 
 -- one mark more: each row is as it was, or has the mark
 module _ (rows : List Row) (i : ℕ) (h : i < length rows) where
@@ -66,9 +60,7 @@ lawful_mark : (rows : List Row) (i : ℕ) → i < length rows → Lawful rows �
 lawful_mark rows i h l =
     let more = set rows i (as_output (row_at rows i)) in
     let long : length more ≡ length rows = length-set rows i (as_output (row_at rows i)) in
-    let same : inputs more ≡ inputs rows =
-    ap (λ n. count n (λ k. is_input (row_at more k).kind)) long
-    ∙ count_same (length rows) (λ k. is_input (row_at more k).kind) (λ k. is_input (row_at rows k).kind) (λ k g. mark_each rows i h (λ r. is_input r.kind ≡ is_input (row_at rows k).kind) k (λ p. p) refl) in
+    let same = sum_by-set (λ (r : Row). cond (is_input r.kind) 1 0) rows i (as_output (row_at rows i)) no_row h in
     record {
       few_lines = omega (arith, long, l.few_lines);
       few_inputs = omega (arith, same, l.few_inputs);

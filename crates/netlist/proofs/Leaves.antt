@@ -1,10 +1,10 @@
 -- The rows that the reader leaves make the circuit of the lines read.
-use Rattle.std.proofs.Common.{◌≡◌, ℕ, ◌+◌, ◌-◌, ◌<◌, ◌≤◌, Bool, true, false, not, List, [], ◌++◌, length, take, replicate, Ok, Err, Result, sym, refl, ap, ◌∙◌, subst, inl, inr, arith}
+use Rattle.std.proofs.Common.{◌≡◌, ℕ, ◌+◌, ◌-◌, ◌<◌, ◌≤◌, true, false, not, List, [], ◌++◌, length, take, replicate, Ok, Err, Result, sym, refl, ap, ◌∙◌, subst, arith}
 use Rattle.std.proofs.lemmas.List.{length-append, length-replicate, get_or_append_left, get_or-append_right, get_or-replicate, take_at, take-append-drop}
-use Rattle.std.proofs.lemmas.Bool.{cases_lt, not_from_true, not_from_false}
+use Rattle.std.proofs.lemmas.List.Sums.{position_or_len_is}
+use Rattle.std.proofs.lemmas.Bool.{not_from_true, not_from_false}
 use Rattle.circuit.specs.Rows.{blank, no_row, row_at, named, line_count, lines, taken, Lawful}
 use Rattle.circuit.specs.declared.row.Row.{Row}
-use Rattle.circuit.proofs.Finds.{first_is, first_none}
 use Rattle.circuit.proofs.Takes.{taken_accepts}
 use Rattle.netlist.specs.Accepted.{MakesCircuit}
 use Rattle.netlist.specs.Reading.{reading, Answers}
@@ -26,12 +26,7 @@ module _ (rows : List Row) (k : ℕ) (l : Lawful rows) where
   padded_count : line_count (rows ++ replicate k blank) ≡ length rows
   padded_count =
       let all = rows ++ replicate k blank in
-      let p : ℕ → Bool = λ i. not (named (row_at all i)) in
-      let before : (j : ℕ) → j < length rows → p j ≡ false = λ j h. not_from_true _ (named_before j h) in
-      elim (cases_lt (length rows) (length all)) [
-        | inl h ↦ first_is (length all) p (length rows) h (not_from_false _ (blank_after (length rows) (omega arith) h)) before
-        | inr g ↦ first_none (length all) p (λ j h. before j (omega arith)) ∙ omega (arith, all_long)
-      ]
+      position_or_len_is (λ r. not (named r)) all (length rows) no_row (omega (arith, all_long)) (λ j h. not_from_true _ (named_before j h)) (λ h. not_from_false _ (blank_after (length rows) (omega arith) h))
 
   -- lawful rows, with blank ones after them, make the circuit of those rows
   pub taken_padded : taken (rows ++ replicate k blank) ≡ rows

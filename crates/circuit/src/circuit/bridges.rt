@@ -1,24 +1,15 @@
-ghost use Rattle.std.specs.Prelude.{◌≡◌, ◌≤◌, false, length, Decides, MatchResult, slice_index_or};
+ghost use Rattle.std.specs.Prelude.{◌≡◌, ◌≤◌, count_by, length, Decides, MatchResult};
 ghost use Rattle.circuit.specs.Bridges.{pairs, bridge_outcome, low, high};
 ghost use Rattle.circuit.specs.Feedback.{Chain, feedback_outcome, feedback_bridges};
-ghost use Rattle.circuit.specs.Search.{count};
 
 use crate::bridge::{Bridge, bridge_at};
 use crate::circuit::Circuit;
-use crate::cone::mark_cone;
-use crate::limit::MAX_LINES;
 use crate::refusal::CircuitFault;
 
 fn count_marked(marks: &[bool]) -> usize
-    ensures { result ≡ count (length marks.now) (λ k. slice_index_or marks.now k false) }
+    ensures { result ≡ count_by (λ m. m) marks.now }
 {
-    let mut marked = 0;
-    for mark in marks {
-        if *mark {
-            marked += 1;
-        }
-    }
-    marked
+    marks.iter().filter(|mark| **mark).count()
 }
 
 impl Circuit<'_> {
@@ -46,9 +37,7 @@ impl Circuit<'_> {
         ensures chain { MatchResult result (λ b. Decides b (Chain self.now.rows.now (low (length self.now.rows.now) number) (high (length self.now.rows.now) number))) (λ _. pairs (length self.now.rows.now) ≤ number) }
     {
         let Bridge { low, high } = self.bridge(number)?;
-        let mut marks = [false; MAX_LINES];
-        mark_cone(self.rows, low, &mut marks);
-        Ok(marks[high])
+        Ok(self.cone(low)[high])
     }
 
     // How many bridges are feedback bridges.
@@ -56,11 +45,9 @@ impl Circuit<'_> {
         ensures { result ≡ feedback_bridges self.now.rows.now }
     {
         let lines = self.rows.len();
-        let mut marks = [false; MAX_LINES];
         let mut total = 0;
         for low in 0..lines {
-            mark_cone(self.rows, low, &mut marks);
-            total += count_marked(&marks[low + 1..lines]);
+            total += count_marked(&self.cone(low)[low + 1..lines]);
         }
         total
     }

@@ -22,21 +22,13 @@ impl Circuit<'_> {
     pub fn outputs(&self) -> usize
         ensures { result ≡ outputs self.now.rows.now }
     {
-        let mut total = 0;
-        for row in self.rows {
-            if row.output {
-                total += 1;
-            }
-        }
-        total
+        self.rows.iter().filter(|row| row.output).count()
     }
 
     pub fn is_output(&self, line: usize) -> Result<bool, CircuitFault>
         ensures { result ≡ output_outcome self.now.rows.now line }
     {
-        match self.rows.get(line) {
-            Some(row) => Ok(row.output),
-            None => Err(CircuitFault::NoLine { line }),
-        }
+        let row = self.rows.get(line).ok_or(CircuitFault::NoLine { line })?;
+        Ok(row.output)
     }
 }

@@ -1,5 +1,6 @@
-ghost use Rattle.circuit.specs.Rows.{line_count, lines, row_lawful, all_below, each_lawful, rest_blank, taken, Lawful, Lines, BlankAfter};
-ghost use Rattle.std.specs.Prelude.{◌≡◌, [], nat_lt};
+ghost use Rattle.circuit.specs.Rows.{line_count, lines, named, row_lawful, all_below, each_lawful, taken, Lawful, Lines, BlankAfter};
+ghost use Rattle.std.specs.List.{list_all, position};
+ghost use Rattle.std.specs.Prelude.{◌≡◌, [], nat_lt, not};
 
 use crate::circuit::Circuit;
 use crate::limit::{MAX_INPUTS, MAX_LINES};
@@ -14,12 +15,7 @@ fn is_below(pin: u16, line: usize) -> bool
 fn are_below(pins: &[u16], line: usize) -> bool
     ensures { result ≡ all_below line pins.now }
 {
-    for pin in pins {
-        if !is_below(*pin, line) {
-            return false;
-        }
-    }
-    true
+    pins.iter().all(|pin| is_below(*pin, line))
 }
 
 fn is_lawful(row: &Row, line: usize) -> bool
@@ -34,47 +30,39 @@ fn is_lawful(row: &Row, line: usize) -> bool
 fn are_lawful(rows: &[Row]) -> bool
     ensures { result ≡ each_lawful rows.now }
 {
-    for (line, row) in rows.iter().enumerate() {
-        if !is_lawful(row, line) {
-            return false;
-        }
-    }
-    true
+    rows.iter()
+        .enumerate()
+        .all(|(line, row)| is_lawful(row, line))
+}
+
+fn first_blank(rows: &[Row]) -> Option<usize>
+    ensures { result ≡ position (λ r. not (named r)) rows.now }
+{
+    rows.iter().position(|row| row.is_blank())
 }
 
 // How many rows stand before the first blank one.
 fn line_count(rows: &[Row]) -> usize
     ensures { result ≡ line_count rows.now }
 {
-    for (line, row) in rows.iter().enumerate() {
-        if row.is_blank() {
-            return line;
-        }
-    }
-    rows.len()
+    first_blank(rows).unwrap_or(rows.len())
 }
 
-fn is_rest_blank(rows: &[Row], count: usize) -> bool
-    requires { count ≡ line_count rows.now }
-    ensures { result ≡ rest_blank rows.now }
+fn are_blank(rows: &[Row]) -> bool
+    ensures { result ≡ list_all (λ r. not (named r)) rows.now }
 {
-    for (line, row) in rows.iter().enumerate() {
-        if line >= count && !row.is_blank() {
-            return false;
-        }
-    }
-    true
+    rows.iter().all(|row| row.is_blank())
 }
 
 fn take_lines(rows: &[Row]) -> Circuit<'_>
     ensures { result.rows.now ≡ taken rows.now }
 {
     let count = line_count(rows);
-    let lines = &rows[0..count];
+    let lines = &rows[..count];
     if count <= MAX_LINES
         && input_count(lines) <= MAX_INPUTS
         && are_lawful(lines)
-        && is_rest_blank(rows, count)
+        && are_blank(&rows[count..])
     {
         Circuit { rows: lines }
     } else {

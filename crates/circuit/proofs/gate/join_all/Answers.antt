@@ -1,25 +1,20 @@
-use Rattle.std.proofs.Common.{◌∷◌, map, get_or, sym, ◌∙◌}
-use Rattle.std.proofs.lemmas.List.{at_drop_all}
-use Rattle.circuit.specs.Gates.{joined}
-use Rattle.circuit.specs.Levels.{pin_level}
-use Rattle.circuit.proofs.Joins.{joins_more, joined_one, cell_level}
+use Rattle.std.proofs.Common.{inl, inr}
+use Rattle.level.specs.Tables.{and3, or3, xor3}
+use Rattle.circuit.specs.Gates.{and_of, or_of, xor_of}
+use Rattle.circuit.proofs.Joins.{fold_and, fold_or, fold_xor, pins_joined}
 use Rattle.circuit.proofs.gate.join_all.Goals as goal
 
-pub loop-pin-preserved : goal.loop-pin-preserved
-loop-pin-preserved g c =
-    let reads = g.V.LineValue.reads in
-    let cells = c.args.cells.now in
-    let rest = c.args.rest.now in
-    let i = c.loop-pin.pin-index in
-    let read = cell_level reads cells (get_or rest i 0) c.index-cells-pin.result (c.requires i c.loop-pin-test.true) c.index-cells-pin.is in
-    let step = joins_more c.args.kind (map reads cells) rest (reads c.loop-pin.all) i c.loop-pin-test.true in
-    cc
+pub returns-in-And : goal.returns-in-And
+returns-in-And g c =
+    let joins = pins_joined g.V.LineValue.reads c.args.cells.now c.args.pins.now c.index-cells-pin.result _ and3 and_of fold_and c.requires.some c.requires.below c.index-cells-pin.is (c.join.ensures and3 (λ a b r p. p)) in
+    elim c.in-And.is [ inl k ↦ rw k joins | inr k ↦ rw k joins ]
 
-pub returns : goal.returns
-returns g c =
-    let reads = g.V.LineValue.reads in
-    let all = reads c.loop-pin.all in
-    let at = pin_level (map reads c.args.cells.now) in
-    sym (joined_one c.args.kind all)
-    ∙ sym (at_drop_all (λ l. joined c.args.kind (all ∷ map at l)) c.args.rest.now c.loop-pin.pin-index c.loop-pin-test.false)
-    ∙ c.loop-pin.invariant
+pub returns-in-Or : goal.returns-in-Or
+returns-in-Or g c =
+    let joins = pins_joined g.V.LineValue.reads c.args.cells.now c.args.pins.now c.index-cells-pin.result _ or3 or_of fold_or c.requires.some c.requires.below c.index-cells-pin.is (c.join-in-Or.ensures or3 (λ a b r p. p)) in
+    elim c.in-Or.is [ inl k ↦ rw k joins | inr k ↦ rw k joins ]
+
+pub returns-in-Xor : goal.returns-in-Xor
+returns-in-Xor g c =
+    let joins = pins_joined g.V.LineValue.reads c.args.cells.now c.args.pins.now c.index-cells-pin.result _ xor3 xor_of fold_xor c.requires.some c.requires.below c.index-cells-pin.is (c.join-in-Xor.ensures xor3 (λ a b r p. p)) in
+    elim c.in-Xor.is [ inl k ↦ rw k joins | inr k ↦ rw k joins ]

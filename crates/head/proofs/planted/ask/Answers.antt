@@ -10,7 +10,7 @@ pub returns-then-is_err : goal.returns-then-is_err
 returns-then-is_err g c =
     let rows = c.args.circuit.now.rows.now in
     let v = c.args.vector.now in
-    let x = g.V.LineValue.knows in
+    let x = g.V.LineValue.KNOWS_X in
     let long : length v ≡ inputs rows = omega (arith, c.inputs.ensures) in
     let two : binary v ≡ true = sym c.if-not-is_binary.ensures in
     let off : is_ok (evaluation_outcome x rows v (length c.args.cells.now)) ≡ false = ap is_ok (sym c.evaluate.ensures.outcome) ∙ c.if-is_err.ensures.negation in
@@ -22,7 +22,7 @@ returns-in-Some g c =
     let n = length rows in
     let β = c.args.bridge in
     let v = c.args.vector.now in
-    let x = g.V.LineValue.knows in
+    let x = g.V.LineValue.KNOWS_X in
     let b = c.in-Ok.lines in
     let long : length v ≡ inputs rows = omega (arith, c.inputs.ensures) in
     let two : binary v ≡ true = sym c.if-not-is_binary.ensures in

@@ -11,10 +11,9 @@ pub fill-requires : goal.fill-requires
 fill-requires g c =
     let rows = c.args.self.now.rows.now in
     let v = c.args.vector.now in
-    let x = g.V.LineValue.knows in
-    let took : vector_outcome x (inputs rows) v ≡ Ok tt = taken_by x c.sees_x.result (inputs rows) c.inputs.result v tt c.sees_x.ensures c.inputs.ensures c.in_ok-check_vector.ensures in
+    let x = g.V.LineValue.KNOWS_X in
+    let took : vector_outcome x (inputs rows) v ≡ Ok tt = taken_by x c.KNOWS_X.result (inputs rows) c.inputs.result v tt c.KNOWS_X.ensures c.inputs.ensures c.in_ok-check_vector.ensures in
     record {
-      sound = c.args.self.now.lawful;
       room = omega (arith, c.if-cells-self.false);
       fed = taken_long x (inputs rows) v (ap is_ok took);
       fit = taken_fits x (inputs rows) v (ap is_ok took);
@@ -24,12 +23,12 @@ pub returns : goal.returns
 returns g c =
     let rows = c.args.self.now.rows.now in
     let v = c.args.vector.now in
-    let x = g.V.LineValue.knows in
-    let took : vector_outcome x (inputs rows) v ≡ Ok tt = taken_by x c.sees_x.result (inputs rows) c.inputs.result v tt c.sees_x.ensures c.inputs.ensures c.in_ok-check_vector.ensures in
+    let x = g.V.LineValue.KNOWS_X in
+    let took : vector_outcome x (inputs rows) v ≡ Ok tt = taken_by x c.KNOWS_X.result (inputs rows) c.inputs.result v tt c.KNOWS_X.ensures c.inputs.ensures c.in_ok-check_vector.ensures in
     record {
       outcome = sym (evaluates x rows v (length c.args.cells.now) (omega (arith, c.if-cells-self.false)) took);
       values = λ _. c.fill.ensures.values;
-      readings = λ _. subst (Reads rows v) (sym c.fill.ensures.values) (levels_read rows v c.args.self.now.lawful);
+      readings = λ _. subst (Reads rows v) (sym c.fill.ensures.values) ((levels_read c.args.self.now.rows.now v c.args.self.now.lawful));
       rest = c.fill.ensures.rest;
       refused = λ e. absurd (both_ways true e refl);
     }

@@ -1,5 +1,5 @@
-use Rattle.std.proofs.Common.{◌≡◌, ◌+◌, length, sym, refl, ap, arith}
-use Rattle.circuit.specs.Feedback.{feedback_bridge}
+use Rattle.std.proofs.Common.{◌≡◌, ◌+◌, length, sym, take, ap, arith}
+use Rattle.circuit.specs.Feedback.{cone, feedback_bridge}
 use Rattle.circuit.specs.Search.{count}
 use Rattle.circuit.proofs.Cones.{cone_count}
 use Rattle.circuit.proofs.Finds.{count_le}
@@ -10,24 +10,24 @@ use Rattle.circuit.proofs.circuit.Circuit.feedback_bridges.Goals as goal
 pub loop-low-init : goal.loop-low-init
 loop-low-init c =
     let rows = c.args.self.now.rows.now in
-    (sym (ap (λ m. count m (feedback_bridge rows)) (begin_none (length rows))), refl)
+    sym (ap (λ m. count m (feedback_bridge rows)) (begin_none (length rows)))
 
 pub overflow_add-total : goal.overflow_add-total
 overflow_add-total c =
-    let circuit = c.args.self.now in
-    let rows = circuit.rows.now in
+    let rows = c.args.self.now.rows.now in
     let n = length rows in
     let i = c.loop-low.low in
-    let few = lawful_lines rows circuit.lawful in
-    let counted = cone_count rows i c.mark_cone.new.marks c.mark_cone.ensures (omega (arith, c.mark_cone.auto.marks, c.loop-low.invariant.1)) c.loop-low-test.true in
-    omega (arith, counted, c.loop-low.invariant.0, c.count_marked-total.ensures, count_le (begin n (i + 1)) (feedback_bridge rows), pairs_few n few)
+    let total : c.loop-low.total ≡ count (begin n i) (feedback_bridge rows) = c.loop-low.invariant in
+    let marks : take n c.cone.result ≡ cone rows i = c.cone.ensures.marks in
+    let counted = cone_count rows i c.cone.result marks (omega (arith, c.cone.ensures.room)) c.loop-low-test.true in
+    omega (arith, counted, total, c.count_marked-total.ensures, count_le (begin n (i + 1)) (feedback_bridge rows), pairs_few n (lawful_lines rows c.args.self.now.lawful))
 
 pub loop-low-preserved : goal.loop-low-preserved
 loop-low-preserved c =
-    let circuit = c.args.self.now in
-    let rows = circuit.rows.now in
+    let rows = c.args.self.now.rows.now in
+    let n = length rows in
     let i = c.loop-low.low in
-    let few = lawful_lines rows circuit.lawful in
-    let long : length c.mark_cone.new.marks ≡ 1024 = omega (arith, c.mark_cone.auto.marks, c.loop-low.invariant.1) in
-    let counted = cone_count rows i c.mark_cone.new.marks c.mark_cone.ensures (omega arith) c.loop-low-test.true in
-    (omega (arith, counted, c.loop-low.invariant.0, c.count_marked-total.ensures), long)
+    let total : c.loop-low.total ≡ count (begin n i) (feedback_bridge rows) = c.loop-low.invariant in
+    let marks : take n c.cone.result ≡ cone rows i = c.cone.ensures.marks in
+    let counted = cone_count rows i c.cone.result marks (omega (arith, c.cone.ensures.room)) c.loop-low-test.true in
+    (omega (arith, counted, total, c.count_marked-total.ensures))

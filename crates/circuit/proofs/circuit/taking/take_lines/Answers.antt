@@ -1,9 +1,9 @@
-use Rattle.std.proofs.Common.{not, length, arith}
-use Rattle.circuit.specs.Rows.{named, row_at}
-use Rattle.circuit.proofs.Finds.{first_le}
+use Rattle.std.proofs.Common.{sym, arith}
+use Rattle.std.proofs.lemmas.List.{length-take-le}
+use Rattle.circuit.proofs.Takes.{line_count_le}
 use Rattle.circuit.proofs.circuit.taking.take_lines.Goals as goal
 
 pub slice_bounds-lines-end : goal.slice_bounds-lines-end
 slice_bounds-lines-end c =
     let rows = c.args.rows.now in
-    omega (arith, c.line_count-count.ensures, first_le (length rows) (λ i. not (named (row_at rows i))))
+    sym (length-take-le c.line_count-count.result rows (omega (arith, c.line_count-count.ensures, line_count_le rows)))
