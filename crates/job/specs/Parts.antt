@@ -1,6 +1,7 @@
 -- The parts of a job: netlist, `%` line and vector lines.
-use Rattle.std.specs.Prelude.{◌≡◌, ℕ, ◌+◌, ◌-◌, ◌<◌, ◌≤◌, Bool, ◌&&◌, ◌||◌, List, length, take, drop, Ok, Err, Result, ◌==◌, nat_eq, slice_index}
-use Rattle.circuit.specs.Search.{each, first, count}
+use Rattle.std.specs.Prelude.{◌≡◌, ℕ, ◌+◌, ◌-◌, ◌<◌, ◌≤◌, Bool, ◌&&◌, ◌||◌, List, count_by, length, take, drop, Ok, Err, Result, ◌==◌, slice_index}
+use Rattle.std.specs.List.{before_first, list_all}
+use Rattle.circuit.specs.Search.{first}
 use Rattle.netlist.specs.Bytes.{blank_byte}
 use Rattle.job.specs.declared.fault.JobFault.{JobFault}
 use Rattle.job.specs.declared.fault.JobFault.TheVariants.{TooLarge, NoPercentLine, Netlist}
@@ -10,16 +11,17 @@ use Rattle.job.specs.declared.split.Job.{Job}
 abbrev pub begins : List ℕ → ℕ → Bool
 begins job s = s == 0 || slice_index job (s - 1) == 10
 
--- where the line that begins at s ends: at its byte 10, or at the end of the job
-abbrev pub line_end : List ℕ → ℕ → ℕ
-line_end job s = s + first (length job - s) (λ k. nat_eq (slice_index job (s + k)) 10)
-
+-- the line that begins at s, up to its byte 10 or the end of the job
 abbrev pub line_at : List ℕ → ℕ → List ℕ
-line_at job s = take (line_end job s - s) (drop s job)
+line_at job s = before_first (λ b. b == 10) (drop s job)
+
+-- where it ends
+abbrev pub line_end : List ℕ → ℕ → ℕ
+line_end job s = s + length (line_at job s)
 
 -- a single `%`, and else blanks
 abbrev pub percent_line : List ℕ → Bool
-percent_line l = count (length l) (λ k. nat_eq (slice_index l k) 37) == 1 && each (length l) (λ k. (slice_index l k == 37) || blank_byte (slice_index l k))
+percent_line l = count_by (λ b. b == 37) l == 1 && list_all (λ b. b == 37 || blank_byte b) l
 
 -- where the first `%` line begins, or the job's length
 abbrev pub percent_at : List ℕ → ℕ

@@ -2,6 +2,7 @@ ghost use Rattle.job.specs.Refusals.{refusal_of};
 ghost use Rattle.job.specs.declared.fault.JobFault.TheVariants.{Netlist as OfNetlist};
 ghost use Rattle.std.specs.Prelude.{◌≡◌};
 
+use crate::split::MAX_JOB;
 use circuit::refusal::{Layer, Refusal};
 use netlist::fault::NetlistFault;
 
@@ -21,22 +22,19 @@ impl From<NetlistFault> for JobFault {
     }
 }
 
-impl JobFault {
-    pub fn refusal(self) -> Refusal
-        ensures { result ≡ refusal_of self }
-    {
-        match self {
-            JobFault::TooLarge => Refusal {
-                number: 1,
-                place: 32_768,
-                layer: Layer::Job,
-            },
-            JobFault::NoPercentLine { length } => Refusal {
-                number: 22,
-                place: length,
-                layer: Layer::Job,
-            },
-            JobFault::Netlist(fault) => fault.refusal(),
+impl From<JobFault> for Refusal {
+    ghost from_gives = { λ e r. r ≡ refusal_of e };
+
+    fn from(fault: JobFault) -> Self {
+        let (number, place) = match fault {
+            JobFault::TooLarge => (1, MAX_JOB),
+            JobFault::NoPercentLine { length } => (22, length),
+            JobFault::Netlist(fault) => return fault.refusal(),
+        };
+        Refusal {
+            number,
+            place,
+            layer: Layer::Job,
         }
     }
 }
