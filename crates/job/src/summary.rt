@@ -1,5 +1,5 @@
 ghost use Rattle.circuit.specs.Bridges.{pairs};
-ghost use Rattle.job.specs.Summaries.{summary_text};
+ghost use Rattle.job.specs.Summaries.{summary_outcome, summary_text};
 ghost use Rattle.std.specs.Prelude.{◌≡◌, IfOk, Some};
 
 use crate::fault::JobFault;
@@ -42,7 +42,8 @@ impl fmt::Display for Summary {
 
 // Reads the netlist of a job and counts.
 pub fn summarize(job: &[u8]) -> Result<Summary, JobFault>
-    ensures { IfOk result (λ s. s.bridges ≡ pairs s.lines) }
+    ensures outcome { result ≡ summary_outcome job.now }
+    ensures bridges { IfOk result (λ s. s.bridges ≡ pairs s.lines) }
 {
     let parts = split(job)?;
     let mut rows = [Row::BLANK; JOB_LINES];

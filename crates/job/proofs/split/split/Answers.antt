@@ -1,4 +1,4 @@
-use Rattle.std.proofs.Common.{◌≡◌, ◌+◌, ◌<◌, true, false, length, refl, ap, ◌∙◌, sym, subst, take, drop, arith, rules}
+use Rattle.std.proofs.Common.{◌≡◌, ◌+◌, true, false, length, refl, ap, ◌∙◌, sym, subst, take, drop, arith, rules}
 use Rattle.std.proofs.lemmas.List.{length-take-le, take_rest}
 use Rattle.std.proofs.lemmas.List.Sorted.{answers_always}
 use Rattle.job.specs.Parts.{line_at, line_end, percent_line, percent_at}
