@@ -1,25 +1,19 @@
 -- Laws of crossed strings and of pin maps.
-use Rattle.std.proofs.Common.{◌≡◌, ℕ, zero, suc, ◌+◌, ◌-◌, ◌<◌, ◌≤◌, Bool, true, false, ◌||◌, eqb, leb, ◌⊎◌, List, [], ◌∷◌, length, get_or, take, drop, set, replicate, sym, refl, ap, ◌∙◌, inl, inr, arith}
-use native.Mathlib.Nat.{sub-zero}
-use Rattle.std.proofs.lemmas.List.{at_drop_more, at_drop_all, length-set, get_or-set_same, get_or-set_other, length-replicate, ext_get_or, take-replicate, take_all, get_or-take}
+use Rattle.std.proofs.Common.{◌≡◌, ℕ, zero, suc, ◌<◌, ◌≤◌, Bool, true, false, eqb, leb, ◌⊎◌, List, [], ◌∷◌, length, get_or, take, set, replicate, sym, refl, ap, ◌∙◌, inl, inr, arith}
+use Rattle.std.proofs.lemmas.List.{length-set, length-take, length-take-le, get_or_default, get_or-set_same, get_or-set_other, length-replicate, ext_get_or, take-replicate, take_all, get_or-take}
 use Rattle.std.proofs.lemmas.Bool.{cases_order, leb-false, or_parts, both_ways, eq-eqb, or_cases, leb-true, eqb-true}
-use Rattle.circuit.specs.Search.{some}
-use Rattle.circuit.proofs.Finds.{first_before, first_at, some_from, some_at, each_from, each_at}
-use Rattle.head.specs.Meaning.{binary}
-use Rattle.head.specs.Crossing.{scattered, crossed, bad, bad_entry, Permutes, Refused, Carries, Undoes}
+use Rattle.std.proofs.lemmas.List.Folds.{list_any_at, Any-from_list_any}
+use Rattle.std.proofs.lemmas.List.Sums.{AllPass-from_list_all, list_all-from_AllPass}
+use Rattle.circuit.proofs.Finds.{first_before, first_at}
+use Rattle.head.specs.Meaning.{binary_byte, binary}
+use Rattle.head.specs.Crossing.{scattered, crossed, repeated, bad, bad_entry, Permutes, Refused, Carries, Undoes}
 
-pub scattered_none : (es c : List ℕ) → scattered es [] c ≡ c
-scattered_none [] c = refl
-scattered_none (e ∷ es) c = refl
-
--- one byte more
-pub scattered_more : (es v c : List ℕ) (i : ℕ) → i < length es → i < length v → scattered (drop i es) (drop i v) c ≡ scattered (drop (i + 1) es) (drop (i + 1) v) (set c (get_or es i 0) (get_or v i 0))
-scattered_more es v c i p q =
-    at_drop_more (λ l. scattered l (drop i v) c) es i 0 p
-    ∙ at_drop_more (λ l. scattered (get_or es i 0 ∷ drop (i + 1) es) l c) v i 0 q
-
-pub scattered_all : (es v c : List ℕ) (i : ℕ) → length v ≤ i → scattered (drop i es) (drop i v) c ≡ c
-scattered_all es v c i h = at_drop_all (λ l. scattered (drop i es) l c) v i h ∙ scattered_none (drop i es) c
+-- where the entries or the bytes are used up
+pub scattered_end : (es v c : List ℕ) → (es ≡ []) ⊎ (v ≡ []) → scattered es v c ≡ c
+scattered_end [] v c e = refl
+scattered_end (e ∷ es) [] c _ = refl
+scattered_end (e ∷ es) (b ∷ v) c (inl none) = cc
+scattered_end (e ∷ es) (b ∷ v) c (inr none) = cc
 
 pub scattered_length : (es v c : List ℕ) → length (scattered es v c) ≡ length c
 scattered_length [] v c = refl
@@ -46,9 +40,9 @@ pub front_crossed : (w n : ℕ) (es v : List ℕ) → w ≤ n → take w (scatte
 front_crossed w n es v h = take_scattered w es v (replicate n 0) ∙ ap (scattered es v) (take-replicate w n 0 h)
 
 -- the slice that the head below is given
-pub cells_crossed : (w n : ℕ) (es v cells : List ℕ) → n ≡ w → w ≤ 256 → cells ≡ scattered es v (replicate 256 0) → take (n - 0) cells ≡ crossed w es v
+pub cells_crossed : (w n : ℕ) (es v cells : List ℕ) → n ≡ w → w ≤ 256 → cells ≡ scattered es v (replicate 256 0) → take n cells ≡ crossed w es v
 cells_crossed w n es v cells e h f =
-    ap (λ k. take k cells) (sub-zero n ∙ e) ∙ ap (take w) f ∙ front_crossed w 256 es v h
+    ap (λ k. take k cells) e ∙ ap (take w) f ∙ front_crossed w 256 es v h
 
 -- entries past the bytes do not count
 pub scattered_front : (es v c : List ℕ) → scattered (take (length v) es) v c ≡ scattered es v c
@@ -120,6 +114,20 @@ straight_crossed w es cells long t own v n =
     let l : i < w = omega (arith, crossed_length w cells v) in
     ap (λ k. get_or (crossed w cells v) k 0) (sym (own i l)) ∙ carries_front w es cells p t v n i l)
 
+-- an earlier entry that names the same pin
+repeated_at : (es : List ℕ) (j : ℕ) → repeated es j ≡ true → (i : ℕ) × (i < j) × (get_or es i 0 ≡ get_or es j 0)
+repeated_at es j e =
+    let same : ℕ → Bool = λ x. eqb x (get_or es j 0) in
+    let found = Any-from_list_any same (take j es) e in
+    let i = found.0 in
+    let within : i < j = omega (arith, found.2, length-take j es) in
+    let here : get_or (take j es) i 0 ≡ found.1 = get_or_default (take j es) i 0 found.1 found.2 ∙ found.3 in
+    (i, within, sym (get_or-take j es i 0 within) ∙ here ∙ eqb-true _ _ found.4)
+
+repeated_from : (es : List ℕ) (i j : ℕ) → i < j → j ≤ length es → get_or es i 0 ≡ get_or es j 0 → repeated es j ≡ true
+repeated_from es i j h l e =
+    list_any_at (λ x. eqb x (get_or es j 0)) (take j es) i 0 (omega (arith, length-take-le j es l)) (eq-eqb _ _ (get_or-take j es i 0 h ∙ e))
+
 -- no bad entry, and an entry for each pin
 pub permutes_from : (w : ℕ) (es : List ℕ) → length es ≡ w → length es ≤ bad_entry w es → Permutes w es
 permutes_from w es n all =
@@ -127,19 +135,19 @@ permutes_from w es n all =
     record {
       long = n;
       below = λ i h. leb-false w (get_or es i 0) (or_parts _ _ (good i h)).0;
-      apart = λ i j h l e. both_ways _ (or_parts _ _ (good j l)).1 (some_from j (λ k. eqb (get_or es k 0) (get_or es j 0)) i h (eq-eqb _ _ e));
+      apart = λ i j h l e. both_ways _ (or_parts _ _ (good j l)).1 (repeated_from es i j h (omega arith) e);
     }
 
 pub permutes_not : (w : ℕ) (es : List ℕ) → bad_entry w es < length es → Permutes w es → ⊥
 permutes_not w es h p =
     let k = bad_entry w es in
     let l : k < w = omega (arith, p.long) in
-    let why : (leb w (get_or es k 0) ≡ true) ⊎ (some k (λ j. eqb (get_or es j 0) (get_or es k 0)) ≡ true) = or_cases _ _ (first_at (length es) (bad w es) h) in
+    let why : (leb w (get_or es k 0) ≡ true) ⊎ (repeated es k ≡ true) = or_cases _ _ (first_at (length es) (bad w es) h) in
     elim why [
       | inl e ↦ omega (arith, leb-true w (get_or es k 0) e, p.below k l)
       | inr e ↦
-          let j = some_at k (λ j. eqb (get_or es j 0) (get_or es k 0)) e in
-          p.apart j.0 k j.1 l (eqb-true _ _ j.2)
+          let j = repeated_at es k e in
+          p.apart j.0 k j.1 l j.2
     ]
 
 -- a bad entry at the first place where one stands
@@ -147,14 +155,14 @@ pub refused_first : (w : ℕ) (es : List ℕ) → bad_entry w es < length es →
 refused_first w es h =
     let p = bad_entry w es in
     let good : (k : ℕ) → k < p → bad w es k ≡ false = first_before (length es) (bad w es) in
-    let why : (leb w (get_or es p 0) ≡ true) ⊎ (some p (λ j. eqb (get_or es j 0) (get_or es p 0)) ≡ true) = or_cases _ _ (first_at (length es) (bad w es) h) in
+    let why : (leb w (get_or es p 0) ≡ true) ⊎ (repeated es p ≡ true) = or_cases _ _ (first_at (length es) (bad w es) h) in
     record {
       within = omega arith;
       below = λ i l. leb-false w (get_or es i 0) (or_parts _ _ (good i l)).0;
-      apart = λ i j l r e. both_ways _ (or_parts _ _ (good j r)).1 (some_from j (λ k. eqb (get_or es k 0) (get_or es j 0)) i l (eq-eqb _ _ e));
+      apart = λ i j l r e. both_ways _ (or_parts _ _ (good j r)).1 (repeated_from es i j l (omega arith) e);
       here = λ _. elim why [
         | inl e ↦ inl (leb-true w (get_or es p 0) e)
-        | inr e ↦ let j = some_at p (λ j. eqb (get_or es j 0) (get_or es p 0)) e in inr (j.0, j.1, eqb-true _ _ j.2)
+        | inr e ↦ inr (repeated_at es p e)
       ];
       whole = λ e _. omega arith;
       never = permutes_not w es h;
@@ -167,7 +175,7 @@ refused_long w es h other =
     record {
       within = omega arith;
       below = λ i l. leb-false w (get_or es i 0) (or_parts _ _ (good i l)).0;
-      apart = λ i j l r e. both_ways _ (or_parts _ _ (good j r)).1 (some_from j (λ k. eqb (get_or es k 0) (get_or es j 0)) i l (eq-eqb _ _ e));
+      apart = λ i j l r e. both_ways _ (or_parts _ _ (good j r)).1 (repeated_from es i j l (omega arith) e);
       here = λ l. absurd (omega arith);
       whole = λ _ e. other e;
       never = λ p. other p.long;
@@ -191,10 +199,9 @@ named w es fs p q back k h =
 pub crossed_binary : (w : ℕ) (es cells fs : List ℕ) → Permutes w es → take w cells ≡ es → Permutes w fs → Undoes w fs es → (v : List ℕ) → length v ≡ w → binary v ≡ true → binary (crossed w cells v) ≡ true
 crossed_binary w es cells fs p t q back v n b =
     let u : List ℕ = crossed w cells v in
-    let bit : ℕ → Bool = λ x. eqb x 48 || eqb x 49 in
-    each_from (length u) (λ k. bit (get_or u k 0)) (λ k h.
+    list_all-from_AllPass binary_byte u (λ k d h.
     let l : k < w = omega (arith, crossed_length w cells v) in
-    let from : get_or u k 0 ≡ get_or v (get_or fs k 0) 0 =
-    ap (λ x. get_or u x 0) (sym (named w es fs p q back k l)) ∙ carries_front w es cells p t v n (get_or fs k 0) (q.below k l) in
+    let from : get_or u k d ≡ get_or v (get_or fs k 0) 0 =
+    get_or_default u k d 0 h ∙ ap (λ x. get_or u x 0) (sym (named w es fs p q back k l)) ∙ carries_front w es cells p t v n (get_or fs k 0) (q.below k l) in
     let m : get_or fs k 0 < length v = omega (arith, q.below k l) in
-    ap bit from ∙ each_at (length v) (λ x. bit (get_or v x 0)) b (get_or fs k 0) m)
+    ap binary_byte from ∙ AllPass-from_list_all binary_byte v b (get_or fs k 0) 0 m)

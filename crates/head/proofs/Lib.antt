@@ -3,3 +3,4 @@ pub mod Listings
 pub mod Pins
 pub mod Plants
 pub mod Standing
+pub mod Vectors

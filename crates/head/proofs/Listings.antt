@@ -1,57 +1,92 @@
 -- Laws of the rows of a sheet.
-use Rattle.std.proofs.Common.{◌≡◌, ℕ, ◌+◌, ◌*◌, ◌<◌, ◌≤◌, Bool, true, false, cond, ◌&&◌, eqb, ltb, List, length, get_or, take, drop, Ok, Err, sym, refl, ap, ◌∙◌, subst, inl, inr, mul-le-mul_right, add-mul, one-mul, le-div_iff_mul-le, div-mul-le_self, arith, length-drop, length-take-le, get_or-drop, get_or-take, ext_get_or}
+use Rattle.std.proofs.Common.{◌≡◌, ℕ, ◌+◌, ◌-◌, ◌*◌, ◌<◌, ◌≤◌, Bool, true, false, cond, ◌&&◌, eqb, ltb, List, ◌++◌, length, get_or, take, drop, Some, None, Ok, Err, sym, refl, ap, ◌∙◌, subst, inl, inr, add-mul, one-mul, le-div_iff_mul-le, div-lt_iff_lt-mul, arith, length-drop, length-append, length-take-le, get_or-drop, get_or-take, ext_get_or}
 use Rattle.std.specs.Str.{bytes_eq}
+use Rattle.std.proofs.lemmas.List.{take-append-le, drop-drop}
 use Rattle.std.proofs.lemmas.Slice.Eq.{bytes_eq-Decides}
-use Rattle.std.proofs.lemmas.Bool.{lt-ltb, le-ltb, eqb-true, and_from, and_parts, or_cases, cond-true, cond-false, cases_Bool}
+use Rattle.std.proofs.Math.ListN.{get_or-append}
+use Rattle.std.proofs.Math.Seq.{drop-append_seam}
+use Rattle.std.proofs.lemmas.Bool.Decides.{nat_tests}
+use Rattle.std.proofs.lemmas.Bool.{lt-ltb, eqb-true, and_from, and_parts, or_cases, cond-true, cases_Bool}
 use Rattle.circuit.proofs.Finds.{first_is, first_none}
 use Rattle.head.specs.declared.fault.HeadFault.TheVariants.{Open}
+use Rattle.head.specs.declared.reading.Reading.{Reading}
 use Rattle.head.specs.declared.reading.Reading.TheVariants.{High, Low}
-use Rattle.head.specs.Meaning.{high, low, open', answered, binary}
-use Rattle.head.specs.Sheets.{row_count, row_mark, row_vector, answers, answering, marked, mark_standing, listed, sheet, Says, Silent, ByRows}
+use Rattle.head.specs.Meaning.{open', answered}
+use Rattle.head.specs.Sheets.{row_count, row_mark, row_vector, answers, answering, marked, mark_reading, mark_standing, listed, sheet, Says, Silent, ByRows}
 
 -- where the next row starts
 pub next_start : (j w : ℕ) → (j + 1) * (w + 1) ≡ j * (w + 1) + (w + 1)
 next_start j w = omega (arith, add-mul j 1 (w + 1), one-mul (w + 1))
 
--- the mark of a whole row stands in the list
-pub row_inside : (w : ℕ) (rows : List ℕ) (j : ℕ) → j < row_count w rows → j * (w + 1) + w < length rows
-row_inside w rows j h =
-    let more : (j + 1) * (w + 1) ≤ row_count w rows * (w + 1) = mul-le-mul_right (w + 1) (omega arith) in
-    omega (arith, more, next_start j w, div-mul-le_self (length rows) (w + 1))
+whole_below : (w : ℕ) (rows : List ℕ) (j : ℕ) → (j + 1) * (w + 1) ≤ length rows → j < row_count w rows
+whole_below w rows j h =
+    let le : j + 1 ≤ row_count w rows = (le-div_iff_mul-le {k = w + 1} {x = j + 1} {y = length rows} (omega arith)).1 h in
+    omega arith
 
-mark_answered : (b : ℕ) → answered 0 (mark_standing b) ≡ Ok (cond (eqb b 72) High Low)
-mark_answered b =
-    elim (cases_Bool (eqb b 72)) [
-      | inl e ↦ ap (λ t. answered 0 (cond t high low)) e ∙ ap (λ t. Ok (cond t High Low)) (sym e)
-      | inr e ↦ ap (λ t. answered 0 (cond t high low)) e ∙ ap (λ t. Ok (cond t High Low)) (sym e)
-    ]
+-- what a row that says r, or nothing, tells of its bytes and its mark
+said_some : (same : Bool) (b : ℕ) (r : Reading) → cond same (mark_reading b) None ≡ Some r → ((marked b && same) ≡ true) × (cond (eqb b 72) High Low ≡ r)
+said_some same b r e = (grind (arith, nat_tests), grind (arith, nat_tests))
+
+said_none : (same : Bool) (b : ℕ) → cond same (mark_reading b) None ≡ None → (marked b && same) ≡ false
+said_none same b e = grind (arith, nat_tests)
+
+-- x is row j with its mark, and rest is what follows it
+pub record RowAt (w : ℕ) (rows v : List ℕ) (j : ℕ) (x rest : List ℕ) : Type 0 where
+  pub inside : j < row_count w rows
+  pub follows : rest ≡ drop ((j + 1) * (w + 1)) rows
+  pub said : (r : Reading) → cond (bytes_eq (take (length x - 1) x) v) (mark_reading (get_or x (length x - 1) 0)) None ≡ Some r → (answers w rows v j ≡ true) × (cond (eqb (row_mark w rows j) 72) High Low ≡ r)
+  pub unsaid : cond (bytes_eq (take (length x - 1) x) v) (mark_reading (get_or x (length x - 1) 0)) None ≡ None → answers w rows v j ≡ false
+
+-- the first w + 1 bytes of what is left from row j on
+pub row_at : (w : ℕ) (rows v : List ℕ) (j size : ℕ) (left x rest : List ℕ) → left ≡ drop (j * (w + 1)) rows → size ≡ w + 1 → left ≡ x ++ rest → length x ≡ size → RowAt w rows v j x rest
+row_at w rows v j size left x rest from wide cut n =
+    let front : drop (j * (w + 1)) rows ≡ x ++ rest = sym from ∙ cut in
+    let long : length x ≡ w + 1 = n ∙ wide in
+    let last : length x - 1 ≡ w = omega arith in
+    let mark : get_or x (length x - 1) 0 ≡ row_mark w rows j =
+    ap (λ n. get_or x n 0) last
+    ∙ sym (get_or-append x rest 0 w (omega arith))
+    ∙ ap (λ (l : List ℕ). get_or l w 0) (sym front)
+    ∙ get_or-drop (j * (w + 1)) rows w 0 in
+    let vector : take (length x - 1) x ≡ row_vector w rows j =
+    ap (λ n. take n x) last ∙ sym (take-append-le w x rest (omega arith)) ∙ ap (take w) (sym front) in
+    let same : cond (bytes_eq (take (length x - 1) x) v) (mark_reading (get_or x (length x - 1) 0)) None ≡ cond (bytes_eq (row_vector w rows j) v) (mark_reading (row_mark w rows j)) None =
+    ap (λ b. cond (bytes_eq (take (length x - 1) x) v) (mark_reading b) None) mark ∙ ap (λ l. cond (bytes_eq l v) (mark_reading (row_mark w rows j)) None) vector in
+    record {
+      inside = whole_below w rows j (omega (arith, next_start j w, length-drop (j * (w + 1)) rows, ap length front, length-append x rest));
+      follows =
+          sym (drop-append_seam x rest)
+          ∙ ap (λ n. drop n (x ++ rest)) long
+          ∙ ap (drop (w + 1)) (sym front)
+          ∙ drop-drop (w + 1) (j * (w + 1)) rows
+          ∙ ap (λ n. drop n rows) (sym (next_start j w));
+      said = λ r e. said_some (bytes_eq (row_vector w rows j) v) (row_mark w rows j) r (sym same ∙ e);
+      unsaid = λ e. said_none (bytes_eq (row_vector w rows j) v) (row_mark w rows j) (sym same ∙ e);
+    }
+
+-- what is left after the last whole row
+pub cut_none : (w : ℕ) (rows : List ℕ) (j : ℕ) → length (drop (j * (w + 1)) rows) < w + 1 → row_count w rows ≤ j
+cut_none w rows j short =
+    let few : length rows < (j + 1) * (w + 1) = omega (arith, length-drop (j * (w + 1)) rows, next_start j w) in
+    let below : row_count w rows < j + 1 = (div-lt_iff_lt-mul {k = w + 1} {x = length rows} {y = j + 1} (omega arith)).1 few in
+    omega arith
 
 -- the first row that answers
 pub listed_at : (w : ℕ) (rows v : List ℕ) (j : ℕ) → j < row_count w rows → answers w rows v j ≡ true → ((k : ℕ) → k < j → answers w rows v k ≡ false) → listed w rows v ≡ mark_standing (row_mark w rows j)
 listed_at w rows v j h e f =
     let is : answering w rows v ≡ j = first_is (row_count w rows) (answers w rows v) j h e f in
-    cond-true (ltb (answering w rows v) (row_count w rows)) _ open' (lt-ltb (answering w rows v) (row_count w rows) (omega (arith, is)))
-    ∙ ap (λ k. mark_standing (row_mark w rows k)) is
+    ap (λ i. cond (ltb i (row_count w rows)) (mark_standing (row_mark w rows i)) open') is ∙ cond-true _ _ _ (lt-ltb _ _ h)
 
 pub listed_none : (w : ℕ) (rows v : List ℕ) → ((k : ℕ) → k < row_count w rows → answers w rows v k ≡ false) → listed w rows v ≡ open'
 listed_none w rows v f =
     let is : answering w rows v ≡ row_count w rows = first_none (row_count w rows) (answers w rows v) f in
-    cond-false (ltb (answering w rows v) (row_count w rows)) (mark_standing (row_mark w rows (answering w rows v))) open' (le-ltb (answering w rows v) (row_count w rows) (omega (arith, is)))
+    grind (arith, nat_tests, is)
 
 pub finds : (w : ℕ) (rows v : List ℕ) (j : ℕ) → j < row_count w rows → answers w rows v j ≡ true → ((k : ℕ) → k < j → answers w rows v k ≡ false) → answered 0 (listed w rows v) ≡ Ok (cond (eqb (row_mark w rows j) 72) High Low)
-finds w rows v j h e f = ap (answered 0) (listed_at w rows v j h e f) ∙ mark_answered (row_mark w rows j)
+finds w rows v j h e f = let is = listed_at w rows v j h e f in grind (arith, nat_tests, is)
 
 pub finds_none : (w : ℕ) (rows v : List ℕ) → ((k : ℕ) → k < row_count w rows → answers w rows v k ≡ false) → answered 0 (listed w rows v) ≡ Err (Open 0)
 finds_none w rows v f = ap (answered 0) (listed_none w rows v f)
-
--- a row that starts at s
-pub answers_at : (w : ℕ) (rows v : List ℕ) (j s : ℕ) (t : Bool) → s ≡ j * (w + 1) → t ≡ (marked (get_or rows (s + w) 0) && bytes_eq (take w (drop s rows)) v) → answers w rows v j ≡ t
-answers_at w rows v j s t e h = sym (h ∙ ap (λ (n : ℕ). marked (get_or rows (n + w) 0) && bytes_eq (take w (drop n rows)) v) e)
-
-whole_below : (w : ℕ) (rows : List ℕ) (j : ℕ) → (j + 1) * (w + 1) ≤ length rows → j < row_count w rows
-whole_below w rows j h =
-    let le : j + 1 ≤ row_count w rows = (le-div_iff_mul-le {k = w + 1} {x = j + 1} {y = length rows} (omega arith)).1 h in
-    omega arith
 
 below_whole : (w : ℕ) (rows : List ℕ) (j : ℕ) → j < row_count w rows → (j + 1) * (w + 1) ≤ length rows
 below_whole w rows j h = (le-div_iff_mul-le {k = w + 1} {x = j + 1} {y = length rows} (omega arith)).0 (omega arith)
@@ -107,13 +142,10 @@ pub by_rows : (w : ℕ) (rows : List ℕ) → ByRows w rows (sheet w rows)
 by_rows w rows =
     record {
       wide = refl;
-      on_high = λ v j long bin s before. cond-true (binary v) (listed w rows v) open' bin ∙ says_listed w rows v j 72 long refl s before;
-      on_low = λ v j long bin s before. cond-true (binary v) (listed w rows v) open' bin ∙ says_listed w rows v j 76 long refl s before;
-      on_none = λ v long quiet. elim (cases_Bool (binary v)) [
-        | inl bin ↦ cond-true (binary v) (listed w rows v) open' bin ∙ listed_none w rows v (λ k h. silent_fails w rows v k h (quiet k))
-        | inr other ↦ cond-false (binary v) (listed w rows v) open' other
-      ];
-      on_others = λ v other. cond-false (binary v) (listed w rows v) open' other;
+      on_high = λ v j long bin s before. let is = says_listed w rows v j 72 long refl s before in grind (arith, is);
+      on_low = λ v j long bin s before. let is = says_listed w rows v j 76 long refl s before in grind (arith, is);
+      on_none = λ v long quiet. let is = listed_none w rows v (λ k h. silent_fails w rows v k h (quiet k)) in grind (arith, is);
+      on_others = λ v other. grind arith;
     }
 
 pub by_rows_of : (w : ℕ) (rows : List ℕ) (u : ℕ) (held : List ℕ) → u ≡ w → held ≡ rows → ByRows w rows (sheet u held)

@@ -1,6 +1,7 @@
 -- What crossing the pins means, and which pin maps are taken.
-use Rattle.std.specs.Prelude.{◌≡◌, ℕ, ◌<◌, ◌≤◌, Bool, true, false, cond, ◌&&◌, ◌||◌, ◌⊎◌, List, [], ◌∷◌, length, take, drop, replicate, Ok, Err, Result, ◌==◌, ◌≢◌, nat_eq, nat_le, nat_lt, slice_index, slice_set}
-use Rattle.circuit.specs.Search.{some, first}
+use Rattle.std.specs.Prelude.{◌≡◌, ℕ, ◌<◌, ◌≤◌, Bool, MatchBool, if◌then◌else◌, ◌&&◌, ◌||◌, ◌⊎◌, List, [], ◌∷◌, length, take, drop, replicate, Ok, Err, Result, ◌==◌, ◌≢◌, nat_le, nat_lt, slice_index, slice_set}
+use Rattle.std.specs.List.{list_any}
+use Rattle.circuit.specs.Search.{first}
 use Rattle.head.specs.declared.fault.HeadFault.{HeadFault}
 use Rattle.head.specs.declared.fault.HeadFault.TheVariants.{NotPermutation, Open, Width}
 use Rattle.head.specs.declared.reading.Reading.{Reading}
@@ -19,15 +20,15 @@ crossed w es v = scattered es v (replicate w 0)
 
 -- the head below with its pins crossed; a string with another byte than 0 and 1 is open
 abbrev pub crossing : List ℕ → Meaning → Meaning
-crossing es m = record { width = m.width; adaptors = one_more m.adaptors; standing = λ v. cond (binary v) (m.standing (crossed m.width es v)) open' }
+crossing es m = record { width = m.width; adaptors = one_more m.adaptors; standing = λ v. if binary v then m.standing (crossed m.width es v) else open' }
 
 -- entry i names a pin that an earlier entry names
 abbrev pub repeated : List ℕ → ℕ → Bool
-repeated es i = some i (λ j. nat_eq (slice_index es j) (slice_index es i))
+repeated es i = list_any (λ e. e == slice_index es i) (take i es)
 
 -- entry i names no pin, or one that an earlier entry names
 abbrev pub bad : ℕ → List ℕ → ℕ → Bool
-bad w es i = nat_le w (slice_index es i) || some i (λ j. nat_eq (slice_index es j) (slice_index es i))
+bad w es i = nat_le w (slice_index es i) || repeated es i
 
 -- the first such entry, or the length
 abbrev pub bad_entry : ℕ → List ℕ → ℕ
@@ -36,8 +37,8 @@ bad_entry w es = first (length es) (bad w es)
 -- what setting gives: the first bad entry, else the length if it is not the width
 abbrev pub setting : ℕ → List ℕ → Result (Unit {0}) HeadFault
 setting w es =
-    cond (nat_lt (bad_entry w es) (length es)) (Err (NotPermutation (bad_entry w es)))
-    (cond (length es == w) (Ok tt) (Err (NotPermutation (length es))))
+    if nat_lt (bad_entry w es) (length es) then Err (NotPermutation (bad_entry w es))
+    else (if length es == w then Ok tt else Err (NotPermutation (length es)))
 
 -- the entries name each of w pins once
 pub record Permutes (w : ℕ) (es : List ℕ) : Type 0 where
@@ -91,13 +92,9 @@ abbrev pub raised_result : Result Reading HeadFault → Result Reading HeadFault
 raised_result (Ok r) = Ok r
 raised_result (Err f) = Err (raised f)
 
-abbrev pub EitherWay : Bool → Type 0 → Type 0 → Type 0
-EitherWay true p q = p
-EitherWay false p q = q
-
 -- a string of the width of 0s and 1s was asked below once, crossed; for another the head below was left alone
 abbrev pub AskedCrossed : {H : Type 0} → (H → List ℕ → Result Reading HeadFault → H → Type 0) → Meaning → List ℕ → H → List ℕ → Result Reading HeadFault → H → Type 0
 AskedCrossed below m es s v r t =
-    EitherWay (length v == m.width && binary v)
+    MatchBool (length v == m.width && binary v)
     ((q : Result Reading HeadFault) × (r ≡ raised_result q) × below s (crossed m.width es v) q t)
     (t ≡ s)

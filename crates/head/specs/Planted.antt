@@ -1,5 +1,5 @@
 -- The planted head.
-use Rattle.std.specs.Prelude.{ℕ, Bool, cond, ◌&&◌, List, length, nat_le, nat_lt}
+use Rattle.std.specs.Prelude.{ℕ, Bool, if◌then◌else◌, ◌&&◌, List, length, nat_le, nat_lt}
 use Rattle.circuit.specs.declared.row.Row.{Row}
 use Rattle.circuit.specs.Bridges.{pairs}
 use Rattle.circuit.specs.Detection.{detects}
@@ -16,5 +16,5 @@ planted rows β cells =
     record {
       width = inputs rows;
       adaptors = 0;
-      standing = λ v. cond (ready rows β cells && binary v) (cond (detects rows v β) high low) open';
+      standing = λ v. if ready rows β cells && binary v then (if detects rows v β then high else low) else open';
     }

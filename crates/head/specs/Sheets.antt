@@ -1,7 +1,9 @@
 -- Answers from a list of readings: rows of w bytes of a vector and then one byte, the mark.
-use Rattle.std.specs.Prelude.{◌≡◌, ℕ, ◌+◌, ◌*◌, ◌/◌, ◌<◌, ◌≤◌, Bool, true, false, cond, ◌&&◌, ◌||◌, List, length, take, drop, ◌==◌, nat_lt, slice_index, slice_index_or}
+use Rattle.std.specs.Prelude.{◌≡◌, ℕ, ◌+◌, ◌*◌, ◌/◌, ◌<◌, ◌≤◌, Bool, true, false, if◌then◌else◌, ◌&&◌, ◌||◌, List, Some, None, Option, length, take, drop, ◌==◌, nat_lt, slice_index}
 use Rattle.std.specs.Str.{bytes_eq}
 use Rattle.circuit.specs.Search.{first}
+use Rattle.head.specs.declared.reading.Reading.{Reading}
+use Rattle.head.specs.declared.reading.Reading.TheVariants.{High, Low}
 use Rattle.head.specs.Meaning.{Meaning, Standing, high, low, open', binary}
 
 -- how many rows are whole: a short last one does not count
@@ -18,6 +20,10 @@ row_mark w rows j = slice_index rows (j * (w + 1) + w)
 abbrev pub marked : ℕ → Bool
 marked b = b == 72 || b == 76
 
+-- what it says, if it is one of them
+abbrev pub mark_reading : ℕ → Option Reading
+mark_reading b = if marked b then Some (if b == 72 then High else Low) else None
+
 -- whether row j is not skipped, and has the vector v
 abbrev pub answers : ℕ → List ℕ → List ℕ → ℕ → Bool
 answers w rows v j = marked (row_mark w rows j) && bytes_eq (row_vector w rows j) v
@@ -27,20 +33,21 @@ abbrev pub answering : ℕ → List ℕ → List ℕ → ℕ
 answering w rows v = first (row_count w rows) (answers w rows v)
 
 abbrev pub mark_standing : ℕ → Standing
-mark_standing b = cond (b == 72) high low
+mark_standing b = if b == 72 then high else low
 
 -- what the rows say of v
 abbrev pub listed : ℕ → List ℕ → List ℕ → Standing
-listed w rows v = cond (nat_lt (answering w rows v) (row_count w rows)) (mark_standing (row_mark w rows (answering w rows v))) open'
+listed w rows v =
+    if nat_lt (answering w rows v) (row_count w rows) then mark_standing (row_mark w rows (answering w rows v)) else open'
 
 abbrev pub sheet : ℕ → List ℕ → Meaning
-sheet w rows = record { width = w; adaptors = 0; standing = λ v. cond (binary v) (listed w rows v) open' }
+sheet w rows = record { width = w; adaptors = 0; standing = λ v. if binary v then listed w rows v else open' }
 
 -- row j, byte by byte: it is whole, its vector is v, and the byte b ends it
 pub record Says (w : ℕ) (rows v : List ℕ) (j b : ℕ) : Type 0 where
   pub whole : (j + 1) * (w + 1) ≤ length rows
   pub bytes : (k : ℕ) → k < w → slice_index rows (j * (w + 1) + k) ≡ slice_index v k
-  pub ends : slice_index_or rows (j * (w + 1) + w) 0 ≡ b
+  pub ends : slice_index rows (j * (w + 1) + w) ≡ b
 
 -- row j says neither H nor L of v
 abbrev pub Silent : ℕ → List ℕ → List ℕ → ℕ → Type 0

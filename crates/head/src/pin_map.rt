@@ -1,11 +1,12 @@
-ghost use Rattle.std.specs.Prelude.{◌≡◌, ℕ, ◌<◌, ◌≤◌, List, length, take, drop, ◌==◌, slice_index, slice_set};
-ghost use Rattle.head.specs.Crossing.{scattered, crossing, repeated, bad, bad_entry, setting, Judged, Stored, raised_result, AskedCrossed};
-ghost use Rattle.head.specs.Meaning.{Lawful};
+ghost use Rattle.std.specs.Prelude.{◌≡◌, ℕ, ◌<◌, ◌≤◌, List, length, take, drop, replicate, if◌then◌else◌, nat_lt, slice_index};
+ghost use Rattle.head.specs.Crossing.{scattered, crossing, bad, bad_entry, setting, Judged, Stored, raised_result, AskedCrossed};
+ghost use Rattle.head.specs.Meaning.{Lawful, measured};
 
-use crate::binary::is_binary;
+use crate::binary::check_binary;
 use crate::fault::{HeadFault, one_more};
 use crate::head::Head;
 use crate::reading::Reading;
+use std::array;
 
 // Crosses pins: byte i of a vector goes to the pin of the head below that entry i names.
 #[derive(Drop)]
@@ -14,46 +15,15 @@ pub struct PinMap<H> {
     map: [u8; 256],
 }
 
-// Puts byte i at the place that entry i names.
-fn put(cells: &mut [u8], map: &[u8], vector: &[u8], i: usize)
-    requires entry { i < length map.now }
-    requires byte { i < length vector.now }
-    requires room { 256 ≤ length cells.old }
-    ensures { cells.new ≡ slice_set cells.old (slice_index map.now i) (slice_index vector.now i) }
+// Each byte of the vector at the pin that its entry names.
+fn scatter(map: &[u8], vector: &[u8]) -> [u8; 256]
+    ensures { result ≡ scattered map.now vector.now (replicate 256 0) }
 {
-    cells[map[i] as usize] = vector[i];
-}
-
-// Puts each byte of the vector at the place that its entry names.
-fn scatter(map: &[u8], vector: &[u8], cells: &mut [u8])
-    requires entries { length vector.now ≤ length map.now }
-    requires room { 256 ≤ length cells.old }
-    ensures { cells.new ≡ scattered map.now vector.now cells.old }
-{
-    for i in 0..vector.len() {
-        put(cells, map, vector, i);
+    let mut cells = [0; 256];
+    for (pin, byte) in map.iter().zip(vector) {
+        cells[usize::from(*pin)] = *byte;
     }
-}
-
-fn is_same_pin(map: &[u16], i: usize, j: usize) -> bool
-    requires first { i < length map.now }
-    requires second { j < length map.now }
-    ensures { result ≡ (slice_index map.now i == slice_index map.now j) }
-{
-    map[i] == map[j]
-}
-
-// Whether an earlier entry names the pin that entry `at` names.
-fn is_repeated(map: &[u16], at: usize) -> bool
-    requires { at < length map.now }
-    ensures { result ≡ repeated map.now at }
-{
-    for j in 0..at {
-        if is_same_pin(map, j, at) {
-            return true;
-        }
-    }
-    false
+    cells
 }
 
 // Whether entry `at` names no pin, or one that an earlier entry names.
@@ -61,48 +31,25 @@ fn is_bad(map: &[u16], at: usize, width: usize) -> bool
     requires { at < length map.now }
     ensures { result ≡ bad width map.now at }
 {
-    map[at] as usize >= width || is_repeated(map, at)
+    usize::from(map[at]) >= width || map[..at].contains(&map[at])
 }
 
-fn first_bad(map: &[u16], width: usize) -> usize
-    ensures { result ≡ bad_entry width map.now }
+fn first_bad(map: &[u16], width: usize) -> Option<usize>
+    ensures { result ≡ (if nat_lt (bad_entry width map.now) (length map.now) then Some (bad_entry width map.now) else None) }
 {
-    for at in 0..map.len() {
-        if is_bad(map, at, width) {
-            return at;
-        }
-    }
-    map.len()
+    (0..map.len()).find(|at| is_bad(map, *at, width))
 }
 
 // Refuses a map that does not name each of the pins once.
 fn judge(map: &[u16], width: usize) -> Result<(), HeadFault>
-    ensures { result ≡ setting width map.now }
+    ensures outcome { result ≡ setting width map.now }
+    ensures judged { Judged width map.now result }
 {
-    let place = first_bad(map, width);
-    if place < map.len() {
-        return Err(HeadFault::NotPermutation { place });
+    match first_bad(map, width) {
+        Some(place) => Err(HeadFault::NotPermutation { place }),
+        None if map.len() != width => Err(HeadFault::NotPermutation { place: map.len() }),
+        None => Ok(()),
     }
-    if map.len() != width {
-        return Err(HeadFault::NotPermutation { place: map.len() });
-    }
-    Ok(())
-}
-
-// The same for the pins of a head.
-fn judge_over<H: Head>(below: &H, map: &[u16]) -> Result<(), HeadFault>
-    ensures narrow { (H.Head.meaning below.now).width ≤ 256 }
-    ensures outcome { result ≡ setting (H.Head.meaning below.now).width map.now }
-    ensures judged { Judged (H.Head.meaning below.now).width map.now result }
-{
-    judge(map, below.width())
-}
-
-fn entry_for(pin: usize) -> u8
-    requires { pin < 256 }
-    ensures { result ≡ pin }
-{
-    pin as u8
 }
 
 // Copies the entries over the first cells.
@@ -112,8 +59,8 @@ fn store(cells: &mut [u8], map: &[u16])
     ensures front { take (length map.now) cells.new ≡ map.now }
     ensures rest { drop (length map.now) cells.new ≡ drop (length map.now) cells.old }
 {
-    for i in 0..map.len() {
-        cells[i] = entry_for(map[i] as usize);
+    for (at, pin) in map.iter().enumerate() {
+        cells[at] = *pin as u8;
     }
 }
 
@@ -121,20 +68,7 @@ fn straight() -> [u8; 256]
     ensures long { length result ≡ 256 }
     ensures own { (k : ℕ) → k < 256 → slice_index result k ≡ k }
 {
-    let mut map = [0u8; 256];
-    for i in 0..256 {
-        map[i] = entry_for(i);
-    }
-    map
-}
-
-fn raise(res: Result<Reading, HeadFault>) -> Result<Reading, HeadFault>
-    ensures { result ≡ raised_result res }
-{
-    match res {
-        Ok(reading) => Ok(reading),
-        Err(fault) => Err(fault.under_adaptor()),
-    }
+    array::from_fn(|pin| pin as u8)
 }
 
 impl<H: Head> PinMap<H> {
@@ -142,7 +76,7 @@ impl<H: Head> PinMap<H> {
     pub fn over(below: H) -> PinMap<H>
         ensures kept { result.below ≡ below }
         ensures straight { (k : ℕ) → k < 256 → slice_index result.map k ≡ k }
-        ensures same { Lawful (H.Head.meaning below) → (v : List ℕ) → length v ≡ (H.Head.meaning below).width → (crossing result.map (H.Head.meaning below)).standing v ≡ (H.Head.meaning below).standing v }
+        ensures same { Lawful (H.Head.meaning below) → (v : List ℕ) → length v ≡ (H.Head.meaning below).width → (⟦<PinMap<H> as Head>⟧.meaning result).standing v ≡ (H.Head.meaning below).standing v }
     {
         PinMap {
             below,
@@ -165,13 +99,22 @@ impl<H: Head> PinMap<H> {
         ensures kept { self.new.below ≡ self.old.below }
         ensures stored { Stored (H.Head.meaning self.old.below).width map.now self.old.map self.new.map result }
     {
-        match judge_over(&self.below, map) {
-            Ok(()) => {
-                store(&mut self.map, map);
-                Ok(())
-            }
-            Err(fault) => Err(fault),
-        }
+        judge(map, self.below.width())?;
+        store(&mut self.map, map);
+        Ok(())
+    }
+
+    // Asks the head below with the vector crossed, if it may be asked; the fault is that of the head below.
+    fn ask(&mut self, vector: &[u8]) -> Result<Reading, HeadFault>
+        ensures outcome { raised_result result ≡ measured (crossing self.old.map (H.Head.meaning self.old.below)) vector.now }
+        ensures same { H.Head.meaning self.new.below ≡ H.Head.meaning self.old.below }
+        ensures kept { self.new.map ≡ self.old.map }
+        ensures once { AskedCrossed H.Head.asked (H.Head.meaning self.old.below) self.old.map self.old.below vector.now (raised_result result) self.new.below }
+    {
+        let width = self.below.width();
+        check_binary(vector, width, self.below.adaptors())?;
+        let cells = scatter(&self.map, vector);
+        self.below.measure(&cells[..width])
     }
 }
 
@@ -189,19 +132,6 @@ impl<H: Head> Head for PinMap<H> {
     }
 
     fn measure(&mut self, vector: &[u8]) -> Result<Reading, HeadFault> {
-        let width = self.below.width();
-        if vector.len() != width {
-            return Err(HeadFault::Width {
-                adaptors: one_more(self.below.adaptors()),
-            });
-        }
-        if !is_binary(vector) {
-            return Err(HeadFault::Open {
-                adaptors: one_more(self.below.adaptors()),
-            });
-        }
-        let mut cells = [0u8; 256];
-        scatter(&self.map, vector, &mut cells);
-        raise(self.below.measure(&cells[0..width]))
+        self.ask(vector).map_err(HeadFault::under_adaptor)
     }
 }

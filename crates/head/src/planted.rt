@@ -1,30 +1,22 @@
 ghost use Rattle.head.specs.Meaning.{measured};
 ghost use Rattle.head.specs.Planted.{planted};
 ghost use Rattle.head.specs.Stands.{Plants};
-ghost use Rattle.head.specs.declared.reading.Reading.TheVariants.{High, Low};
-ghost use Rattle.std.specs.Prelude.{◌≡◌, cond, length};
+ghost use Rattle.std.specs.Prelude.{◌≡◌, length};
 
-use crate::binary::is_binary;
-use crate::fault::HeadFault;
+use crate::binary::check_binary;
+use crate::fault::{HeadFault, OPEN};
 use crate::head::Head;
 use crate::reading::Reading;
 use circuit::circuit::Circuit;
 use circuit::detection::is_detected;
 use level::line_value::LineValue;
-use std::mem;
 
 // Acts as a chip with one bridge: high exactly for the vectors that detect it.
 #[derive(Drop)]
 pub struct Planted<'c, 'm, V> {
+    cells: &'m mut [V],
     circuit: Circuit<'c>,
     bridge: usize,
-    cells: &'m mut [V],
-}
-
-fn reading(is_high: bool) -> Reading
-    ensures { result ≡ cond is_high High Low }
-{
-    if is_high { Reading::High } else { Reading::Low }
 }
 
 // What a chip with this bridge reads under the vector.
@@ -36,34 +28,13 @@ fn ask<V: LineValue>(
 ) -> Result<Reading, HeadFault>
     ensures { result ≡ measured (planted circuit.now.rows.now bridge (length cells.old)) vector.now }
 {
-    if vector.len() != circuit.inputs() {
-        return Err(HeadFault::Width { adaptors: 0 });
-    }
-    if !is_binary(vector) {
-        return Err(HeadFault::Open { adaptors: 0 });
-    }
-    let Ok(lines) = circuit.bridge(bridge) else {
-        return Err(HeadFault::Open { adaptors: 0 });
-    };
-    if circuit.evaluate(vector, cells).is_err() {
-        return Err(HeadFault::Open { adaptors: 0 });
-    }
+    check_binary(vector, circuit.inputs(), 0)?;
+    let lines = circuit.bridge(bridge).map_err(|_| OPEN)?;
+    circuit.evaluate(vector, cells).map_err(|_| OPEN)?;
     match is_detected(lines, cells) {
-        Some(detected) => Ok(reading(detected)),
-        None => Err(HeadFault::Open { adaptors: 0 }),
-    }
-}
-
-fn plant<'c, 'm, V>(circuit: Circuit<'c>, bridge: usize, cells: &'m mut [V]) -> Planted<'c, 'm, V>
-    ensures circuit { result.circuit.rows.now ≡ circuit.entry.rows.now }
-    ensures bridge { result.bridge ≡ bridge }
-    ensures cells { result.cells.now ≡ cells.old }
-    ensures named { result.cells.ghost_name ≡ cells.entry.ghost_name }
-{
-    Planted {
-        circuit,
-        bridge,
-        cells,
+        Some(true) => Ok(Reading::High),
+        Some(false) => Ok(Reading::Low),
+        None => Err(OPEN),
     }
 }
 
@@ -75,13 +46,17 @@ impl<'c, 'm, V> Planted<'c, 'm, V> {
         ensures named { result.cells.ghost_name ≡ cells.entry.ghost_name }
         ensures plants { Plants circuit.entry.rows.now bridge (length cells.old) }
     {
-        plant(circuit, bridge, cells)
+        Planted {
+            circuit,
+            bridge,
+            cells,
+        }
     }
 
-    // Gives the circuit back, and leaves the cells, the third field, as they are.
+    // Gives the circuit back, and leaves the cells as they are.
     pub fn close(self) -> Circuit<'c>
         ensures circuit { result.rows.now ≡ self.entry.circuit.rows.now }
-        ensures cells { self.exit.1.1.0.now ≡ self.entry.cells.now }
+        ensures cells { let cells = self.exit.0 in cells.now ≡ self.entry.cells.now }
     {
         let Planted {
             circuit,
@@ -106,9 +81,6 @@ impl<'c, 'm, V: LineValue> Head for Planted<'c, 'm, V> {
     }
 
     fn measure(&mut self, vector: &[u8]) -> Result<Reading, HeadFault> {
-        let cells = mem::replace(&mut self.cells, &mut []);
-        let answer = ask(&self.circuit, self.bridge, vector, &mut *cells);
-        self.cells = cells;
-        answer
+        ask(&self.circuit, self.bridge, vector, self.cells)
     }
 }

@@ -1,4 +1,4 @@
-ghost use Rattle.head.specs.Meaning.{Meaning, reversed, turned, turned_result};
+ghost use Rattle.head.specs.Meaning.{Meaning, reversed, turned_result};
 ghost use Rattle.head.specs.Asking.{Through};
 ghost use Rattle.head.specs.Stands.{Undone};
 ghost use Rattle.std.specs.Prelude.{◌≡◌};
@@ -6,6 +6,7 @@ ghost use Rattle.std.specs.Prelude.{◌≡◌};
 use crate::fault::{HeadFault, one_more};
 use crate::head::Head;
 use crate::reading::Reading;
+use std::marker::Model;
 
 // Swaps high and low of the head below.
 #[derive(Drop)]
@@ -13,27 +14,15 @@ pub struct Reverser<H> {
     below: H,
 }
 
-fn turn(reading: Reading) -> Reading
-    ensures { result ≡ turned reading }
-{
-    match reading {
-        Reading::High => Reading::Low,
-        Reading::Low => Reading::High,
-    }
-}
+impl<H> Model for Reverser<H> {
+    ghost Value = { H };
 
-fn turn_result(res: Result<Reading, HeadFault>) -> Result<Reading, HeadFault>
-    ensures { result ≡ turned_result res }
-{
-    match res {
-        Ok(reading) => Ok(turn(reading)),
-        Err(fault) => Err(fault.under_adaptor()),
-    }
+    ghost view = { λ s. s.below };
 }
 
 impl<H> Reverser<H> {
     pub fn over(below: H) -> Reverser<H>
-        ensures below { result.below ≡ below }
+        ensures below { result ≡ below }
         ensures undone { (m : Meaning) → Undone m }
     {
         Reverser { below }
@@ -41,7 +30,7 @@ impl<H> Reverser<H> {
 
     // Takes the adaptor off the head.
     pub fn into_below(self) -> H
-        ensures { result ≡ self.below }
+        ensures { result ≡ self }
     {
         let Reverser { below } = self;
         below
@@ -49,9 +38,9 @@ impl<H> Reverser<H> {
 }
 
 impl<H: Head> Head for Reverser<H> {
-    ghost meaning = { λ s. reversed (H.Head.meaning s.below) };
+    ghost meaning = { λ s. reversed (H.Head.meaning s) };
 
-    ghost asked = { λ s v r t. Through H.Head.asked turned_result s.below v r t.below };
+    ghost asked = { λ s v r t. Through H.Head.asked turned_result s v r t };
 
     fn width(&self) -> usize {
         self.below.width()
@@ -62,6 +51,9 @@ impl<H: Head> Head for Reverser<H> {
     }
 
     fn measure(&mut self, vector: &[u8]) -> Result<Reading, HeadFault> {
-        turn_result(self.below.measure(vector))
+        self.below
+            .measure(vector)
+            .map(|reading| !reading)
+            .map_err(HeadFault::under_adaptor)
     }
 }

@@ -1,11 +1,10 @@
 ghost use Rattle.head.specs.Meaning.{answered};
-ghost use Rattle.head.specs.Sheets.{ByRows, listed, marked, sheet};
-ghost use Rattle.head.specs.declared.reading.Reading.TheVariants.{High, Low};
+ghost use Rattle.head.specs.Sheets.{ByRows, listed, mark_reading, sheet};
 ghost use Rattle.std.specs.Str.{bytes_eq};
-ghost use Rattle.std.specs.Prelude.{◌≡◌, ◌+◌, ◌<◌, ◌≤◌, ◌&&◌, [], length, take, drop, if◌then◌else◌, nat_eq, nat_le, slice_index};
+ghost use Rattle.std.specs.Prelude.{◌≡◌, ◌-◌, ◌<◌, ◌≤◌, [], length, take, if◌then◌else◌, slice_index};
 
-use crate::binary::is_binary;
-use crate::fault::HeadFault;
+use crate::binary::check_binary;
+use crate::fault::{HeadFault, OPEN};
 use crate::head::Head;
 use crate::reading::Reading;
 
@@ -18,35 +17,27 @@ pub struct Sheet<'a> {
     ghost narrow: { width ≤ 256 },
 }
 
-fn is_marked(byte: u8) -> bool
-    ensures { result ≡ marked byte }
+// What a row's last byte says, if it is H or L.
+fn reading(mark: u8) -> Option<Reading>
+    ensures { result ≡ mark_reading mark }
 {
-    byte == b'H' || byte == b'L'
-}
-
-fn is_same(left: &[u8], right: &[u8]) -> bool
-    ensures { result ≡ bytes_eq left.now right.now }
-{
-    left == right
-}
-
-fn reading(mark: u8) -> Reading
-    ensures { result ≡ (if nat_eq mark 72 then High else Low) }
-{
-    if mark == b'H' {
-        Reading::High
-    } else {
-        Reading::Low
+    match mark {
+        b'H' => Some(Reading::High),
+        b'L' => Some(Reading::Low),
+        _ => None,
     }
 }
 
-// Whether the row from `start` on is not skipped, and has the vector.
-fn is_answer(rows: &[u8], start: usize, width: usize, vector: &[u8]) -> bool
-    requires { start + width < length rows.now }
-    ensures { result ≡ (marked (slice_index rows.now (start + width)) && bytes_eq (take width (drop start rows.now)) vector.now) }
+// What a row says, if it is not skipped and has the vector.
+fn answer(row: &[u8], vector: &[u8]) -> Option<Reading>
+    ensures { let last = length row.now - 1 in result ≡ (if bytes_eq (take last row.now) vector.now then mark_reading (slice_index row.now last) else None) }
 {
-    let end = start + width;
-    is_marked(rows[end]) && is_same(&rows[start..end], vector)
+    let (mark, bytes) = row.split_last()?;
+    if bytes == vector {
+        reading(*mark)
+    } else {
+        None
+    }
 }
 
 // What the first row says that is not skipped and has the vector.
@@ -54,21 +45,12 @@ fn find(rows: &[u8], width: usize, vector: &[u8]) -> Result<Reading, HeadFault>
     requires { width ≤ 256 }
     ensures { result ≡ answered 0 (listed width rows.now vector.now) }
 {
-    let count = rows.len() / (width + 1);
-    let mut start = 0;
-    for row in 0..count {
-        if is_answer(rows, start, width, vector) {
-            return Ok(reading(rows[start + width]));
+    for row in rows.chunks_exact(width + 1) {
+        if let Some(reading) = answer(row, vector) {
+            return Ok(reading);
         }
-        start += width + 1;
     }
-    Err(HeadFault::Open { adaptors: 0 })
-}
-
-fn is_narrow(width: usize) -> bool
-    ensures { result ≡ nat_le width 256 }
-{
-    width <= 256
+    Err(OPEN)
 }
 
 impl<'a> Sheet<'a> {
@@ -76,9 +58,9 @@ impl<'a> Sheet<'a> {
     pub fn new(width: usize, rows: &'a [u8]) -> Sheet<'a>
         ensures takes { width ≤ 256 → (result.width ≡ width) × (result.rows.now ≡ rows.now) }
         ensures refuses { 256 < width → (result.width ≡ 0) × (result.rows.now ≡ []) }
-        ensures answers { width ≤ 256 → ByRows width rows.now (sheet result.width result.rows.now) }
+        ensures answers { width ≤ 256 → ByRows width rows.now (⟦<Sheet<'a> as Head>⟧.meaning result) }
     {
-        if is_narrow(width) {
+        if width <= 256 {
             Sheet { width, rows }
         } else {
             Sheet {
@@ -103,12 +85,7 @@ impl<'a> Head for Sheet<'a> {
     }
 
     fn measure(&mut self, vector: &[u8]) -> Result<Reading, HeadFault> {
-        if vector.len() != self.width {
-            return Err(HeadFault::Width { adaptors: 0 });
-        }
-        if !is_binary(vector) {
-            return Err(HeadFault::Open { adaptors: 0 });
-        }
+        check_binary(vector, self.width, 0)?;
         find(self.rows, self.width, vector)
     }
 }

@@ -5,6 +5,7 @@
 use anyhow::Context;
 use circuit::circuit::Circuit;
 use circuit::kind::Kind;
+use circuit::refusal::Refusal;
 use circuit::row::Row;
 use head::fault::HeadFault;
 use head::head::Head;
@@ -21,17 +22,13 @@ use std::io;
 mod probe;
 
 fn refuse(rt: &impl Print, title: &str, fault: HeadFault) -> io::Result<()> {
-    let refusal = fault.refusal();
-    let number = refusal.number;
-    let place = refusal.place;
-    let layer = refusal.layer.name();
-    println!(rt; "{title}: refused {number} at {place} in {layer}")
+    let refusal = Refusal::from(fault);
+    println!(rt; "{title}: {refusal}")
 }
 
 fn show(rt: &impl Print, title: &str, outcome: Result<Reading, HeadFault>) -> io::Result<()> {
     match outcome {
-        Ok(Reading::High) => println!(rt; "{title}: high"),
-        Ok(Reading::Low) => println!(rt; "{title}: low"),
+        Ok(reading) => println!(rt; "{title}: {reading}"),
         Err(fault) => refuse(rt, title, fault),
     }
 }

@@ -1,8 +1,7 @@
-ghost use Rattle.circuit.specs.Search.{count};
 ghost use Rattle.lab.specs.Probe.{probe};
-ghost use Rattle.std.specs.Prelude.{◌≡◌, ◌≤◌, min, length, nat_eq, slice_index};
+ghost use Rattle.std.specs.Prelude.{◌≡◌, ◌≤◌, min};
 
-use head::binary::is_binary;
+use head::binary::check_binary;
 use head::fault::HeadFault;
 use head::head::Head;
 use head::reading::Reading;
@@ -13,18 +12,6 @@ pub struct Probe {
     width: usize,
     least: usize,
     ghost narrow: { width ≤ 256 },
-}
-
-fn count_ones(vector: &[u8]) -> usize
-    ensures { result ≡ count (length vector.now) (λ k. nat_eq (slice_index vector.now k) 49) }
-{
-    let mut ones = 0;
-    for byte in vector {
-        if *byte == b'1' {
-            ones += 1;
-        }
-    }
-    ones
 }
 
 impl Probe {
@@ -54,13 +41,9 @@ impl Head for Probe {
     }
 
     fn measure(&mut self, vector: &[u8]) -> Result<Reading, HeadFault> {
-        if vector.len() != self.width {
-            return Err(HeadFault::Width { adaptors: 0 });
-        }
-        if !is_binary(vector) {
-            return Err(HeadFault::Open { adaptors: 0 });
-        }
-        if count_ones(vector) >= self.least {
+        check_binary(vector, self.width, 0)?;
+        let ones = vector.iter().filter(|byte| **byte == b'1').count();
+        if ones >= self.least {
             Ok(Reading::High)
         } else {
             Ok(Reading::Low)

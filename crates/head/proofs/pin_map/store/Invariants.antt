@@ -1,5 +1,5 @@
 use Rattle.std.proofs.Common.{◌≡◌, take, drop}
 use Rattle.head.proofs.pin_map.store.Given as goal
 
-abbrev pub invariant-loop-i : goal.invariant-loop-i
-invariant-loop-i l = (take l.i l.cells ≡ take l.i l.map) × (drop l.i l.cells ≡ drop l.i l.initial.cells)
+abbrev pub invariant-loop-at : goal.invariant-loop-at
+invariant-loop-at l = (take l.at l.cells ≡ take l.at l.map) × (drop l.at l.cells ≡ drop l.at l.initial.cells)

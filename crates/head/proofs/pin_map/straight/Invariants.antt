@@ -1,5 +1,0 @@
-use Rattle.std.proofs.Common.{◌≡◌, ℕ, ◌<◌, length, get_or}
-use Rattle.head.proofs.pin_map.straight.Given as goal
-
-abbrev pub invariant-loop-i : goal.invariant-loop-i
-invariant-loop-i l = (length l.map ≡ 256) × ((k : ℕ) → k < l.i → get_or l.map k 0 ≡ k)
