@@ -1,11 +1,12 @@
 -- A text line is cut into tokens in one way.
-use Rattle.std.proofs.Common.{◌≡◌, ℕ, zero, suc, ◌+◌, ◌-◌, ◌<◌, ◌≤◌, true, false, List, [], ◌∷◌, ◌++◌, length, get_or, take, drop, sym, refl, ap, ◌∙◌, subst, ⊎_elim, add-zero, arith, length-drop, below_more}
+use Rattle.std.proofs.Common.{◌≡◌, ℕ, zero, suc, ◌+◌, ◌-◌, ◌<◌, ◌≤◌, true, false, List, [], ◌∷◌, ◌++◌, length, get_or, take, drop, sym, refl, ap, ◌∙◌, subst, ⊎_elim, add-zero, arith, length-drop}
 use Rattle.std.proofs.lemmas.List.{take_more, get_or-drop, length-take-le}
 use Rattle.std.proofs.lemmas.Bool.{cases_Bool, cases_lt}
+use Rattle.std.specs.List.{prefix_len}
 use Rattle.netlist.specs.Bytes.{word_byte, blank_byte, stop_byte}
 use Rattle.netlist.specs.Cutting.{Cut, blank, whole_word, alone, end_of_text, stop}
 use Rattle.netlist.specs.Tokens.{Tok, word, mark, tokens, line}
-use Rattle.netlist.proofs.Steps.{at_word, at_blank, at_stop, at_mark, at_end, at_word_end}
+use Rattle.netlist.proofs.Steps.{rest, run_within, run_passes, run_stops, run_begins, at_word, at_blank, at_stop, at_mark, at_end, at_word_end}
 
 -- the bytes from `at` on that have been read into a word
 run_on : (text : List ℕ) (at n : ℕ) → at + n ≤ length text → ((k : ℕ) → k < n → word_byte (get_or text (at + k) 0) ≡ true) → line text at ≡ tokens (take n (drop at text)) (drop (at + n) text) (at + n)
@@ -22,11 +23,17 @@ run_on text at (suc n) h each =
     ∙ ap (λ m. tokens (take m (drop at text)) (drop (at + n + 1) text) (at + n + 1)) one
     ∙ ap (λ q. tokens (take (suc n) (drop at text)) (drop q text) q) further
 
-run_word : (text : List ℕ) (at n : ℕ) → 0 < n → at + n ≤ length text → ((k : ℕ) → k < n → word_byte (get_or text (at + k) 0) ≡ true) → (at + n < length text → word_byte (get_or text (at + n) 0) ≡ false) → line text at ≡ word (take n (drop at text)) at ∷ line text (at + n)
+-- a word goes as far as it can
+pub run_word : (text : List ℕ) (at n : ℕ) → 0 < n → at + n ≤ length text → ((k : ℕ) → k < n → word_byte (get_or text (at + k) 0) ≡ true) → (at + n < length text → word_byte (get_or text (at + n) 0) ≡ false) → line text at ≡ word (take n (drop at text)) at ∷ line text (at + n)
 run_word text at n some h each over =
     let long : length (take n (drop at text)) ≡ n = length-take-le n (drop at text) (omega (arith, length-drop at text)) in
     let back : at + n - length (take n (drop at text)) ≡ at = omega arith in
     run_on text at n h each ∙ at_word_end (take n (drop at text)) text (at + n) (omega arith) over ∙ ap (λ p. word (take n (drop at text)) p ∷ line text (at + n)) back
+
+-- a word of n bytes
+pub word_first : (text : List ℕ) (at n : ℕ) → at < length text → word_byte (get_or text at 0) ≡ true → n ≡ prefix_len word_byte (rest text at) → line text at ≡ word (take n (drop at text)) at ∷ line text (at + n)
+word_first text at n h first e =
+    rw e (run_word text at (prefix_len word_byte (rest text at)) (run_begins text at word_byte h first) (run_within text at word_byte (omega arith)) (run_passes text at word_byte) (run_stops text at word_byte))
 
 cut_is : (text : List ℕ) {at : ℕ} {ts : List Tok} → Cut text at ts → ts ≡ line text at
 cut_is text (blank {at = at} h e c) = cut_is text c ∙ sym (at_blank text at h e)
@@ -38,32 +45,6 @@ cut_is text (stop {at = at} h e) = sym (at_stop text at h e)
 pub cut_line : (text : List ℕ) (at : ℕ) (ts : List Tok) → Cut text at ts → ts ≡ line text at
 cut_line text at ts c = cut_is text c
 
--- a word from `at` on, which goes on as far as it can
-record Run (text : List ℕ) (at : ℕ) : Type 0 where
-  size : ℕ
-  some : 0 < size
-  fits : at + size ≤ length text
-  each : (k : ℕ) → k < size → word_byte (get_or text (at + k) 0) ≡ true
-  over : at + size < length text → word_byte (get_or text (at + size) 0) ≡ false
-
-run_from : (text : List ℕ) (at n fuel : ℕ) → 0 < n → at + n ≤ length text → ((k : ℕ) → k < n → word_byte (get_or text (at + k) 0) ≡ true) → length text ≤ at + n + fuel → Run text at
-run_from text at n zero some fits each room = record { size = n; some = some; fits = fits; each = each; over = λ h. absurd (omega arith) }
-run_from text at n (suc fuel) some fits each room =
-    ⊎_elim
-    (λ h.
-    ⊎_elim
-    (λ e. run_from text at (n + 1) fuel (omega arith) (omega arith) (below_more (λ k. word_byte (get_or text (at + k) 0) ≡ true) n each e) (omega arith))
-    (λ e. record { size = n; some = some; fits = fits; each = each; over = λ _. e })
-    (cases_Bool (word_byte (get_or text (at + n) 0))))
-    (λ h. record { size = n; some = some; fits = fits; each = each; over = λ l. absurd (omega arith) })
-    (cases_lt (at + n) (length text))
-
-run_here : (text : List ℕ) (at : ℕ) → at < length text → word_byte (get_or text at 0) ≡ true → Run text at
-run_here text at h e =
-    run_from text at 1 (length text) (omega arith) (omega arith)
-    (λ k l. let none : at + k ≡ at = omega arith in ap (λ i. word_byte (get_or text i 0)) none ∙ e)
-    (omega arith)
-
 cut_as : (text : List ℕ) (at : ℕ) (ts : List Tok) → line text at ≡ ts → Cut text at ts → Cut text at (line text at)
 cut_as text at ts e c = subst (λ us. Cut text at us) (sym e) c
 
@@ -74,10 +55,12 @@ cut_within text at (suc fuel) h room =
     (λ l.
     ⊎_elim
     (λ e.
-    let r = run_here text at l e in
-    let some : 0 < r.size = r.some in
-    let fits : at + r.size ≤ length text = r.fits in
-    cut_as text at _ (run_word text at r.size some fits r.each r.over) (whole_word r.size some fits r.each r.over (cut_within text (at + r.size) fuel fits (omega arith))))
+    let n = prefix_len word_byte (rest text at) in
+    let some : 0 < n = run_begins text at word_byte l e in
+    let fits : at + n ≤ length text = run_within text at word_byte h in
+    let each = run_passes text at word_byte in
+    let over = run_stops text at word_byte in
+    cut_as text at _ (run_word text at n some fits each over) (whole_word n some fits each over (cut_within text (at + n) fuel fits (omega arith))))
     (λ e.
     let next = cut_within text (at + 1) fuel (omega arith) (omega arith) in
     ⊎_elim

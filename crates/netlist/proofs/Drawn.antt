@@ -1,41 +1,44 @@
 -- Each line of an accepted text comes from a text line, and its row keeps what that text line says.
-use Rattle.std.proofs.Common.{◌≡◌, ℕ, suc, ◌+◌, ◌<◌, ◌≤◌, true, false, leb, List, [], ◌∷◌, ◌++◌, length, get_or, set, replicate, is_some, Some, None, Ok, Err, Option, Result, sym, refl, ap, ◌∙◌, subst, inl, inr, arith, length-set, MatchOption}
+use Rattle.std.proofs.Common.{◌≡◌, ℕ, ◌+◌, ◌<◌, ◌≤◌, true, leb, List, [], ◌∷◌, ◌++◌, map, length, get_or, set, replicate, is_some, Some, None, Ok, Err, Option, Result, sym, refl, ap, ◌∙◌, subst, inl, inr, arith, length-set, MatchOption}
 use Rattle.std.specs.List.{AllByRecursion}
-use Rattle.std.proofs.lemmas.List.{length-take, length_push, get_or_push, get_or_append_left, get_or-take, get_or-replicate, get_or-set_same, get_or-set_other}
-use Rattle.std.proofs.lemmas.Bool.{cond_both, both_ways, cases_eq, cases_lt}
-use Rattle.circuit.specs.Kinds.{takes, is_input, is_gate}
+use Rattle.std.proofs.lemmas.List.{length-take, length_push, get_or_push, get_or_append_left, get_or-take}
+use Rattle.std.proofs.lemmas.Bool.{cond_both, cases_lt}
+use Rattle.circuit.specs.Kinds.{takes}
 use Rattle.circuit.specs.Rows.{row_at, inputs}
 use Rattle.circuit.specs.declared.kind.Kind.{Kind}
-use Rattle.circuit.specs.declared.kind.Kind.TheVariants.{Input as an_input, And, Nand, Or, Nor, Xor, Xnor, Not, Buff}
 use Rattle.circuit.specs.declared.row.Row.{Row}
-use Rattle.circuit.specs.declared.row.Span.{Span}
 use Rattle.netlist.specs.Accepted.{Accepted}
-use Rattle.netlist.specs.Definitions.{line_of, placed, resolved, declares, gate_row, gates, defining, defined, extended}
+use Rattle.netlist.specs.Definitions.{line_of, resolved, declares, gate_row, gate_with, gates, defining, defined, extended}
 use Rattle.netlist.specs.Drawn.{no_span, GateRow, Keeps, Defines, Draws, ComesFrom, Drawn}
-use Rattle.netlist.specs.Keywords.{declaration_of, kind_of}
+use Rattle.netlist.specs.Keywords.{port_of, kind_of}
 use Rattle.netlist.specs.Names.{bytes_of, name_of}
-use Rattle.netlist.specs.Reading.{lines_from, after_line, rows_of, as_output, reading}
+use Rattle.netlist.specs.Reading.{in_turn, lines_from, after_line, rows_of, as_output, reading}
 use Rattle.netlist.specs.Statements.{used_of, said}
 use Rattle.netlist.specs.Tokens.{Tok}
 use Rattle.netlist.specs.declared.fault.NetlistFault.{NetlistFault}
 use Rattle.netlist.specs.declared.fault.TokenFault.{TokenFault}
-use Rattle.netlist.specs.declared.keyword.Declaration.{Declaration as Declares}
-use Rattle.netlist.specs.declared.keyword.Declaration.TheVariants.{Input, Output}
-use Rattle.netlist.specs.declared.statement.Pins.{Pins}
-use Rattle.netlist.specs.declared.statement.State.TheVariants.{Start}
+use Rattle.netlist.specs.declared.keyword.Port.{Port}
+use Rattle.netlist.specs.declared.keyword.Port.TheVariants.{Input, Output}
+use Rattle.netlist.specs.declared.state.State.TheVariants.{Start}
+use Rattle.netlist.specs.declared.pins.Pins.{Pins}
+use Rattle.netlist.specs.declared.statement.Declaration.{Declaration as Declares}
+use Rattle.netlist.specs.declared.statement.Gate.{Gate as Gates}
 use Rattle.netlist.specs.declared.statement.Statement.{Statement}
 use Rattle.netlist.specs.declared.statement.Statement.TheVariants.{Empty, Declaration, Gate}
-use Rattle.netlist.proofs.Found.{line_some}
-use Rattle.netlist.proofs.Grows.{accepted_at, accepted_weaker, at_most_eight, kind_gate, next_rows, marks_keep, reading_from}
-use Rattle.netlist.proofs.Laws.{row_before, row_last, mark_each, name_kept}
-use Rattle.netlist.proofs.Words.{Before, Sound, said_sound, lines_before}
+use Rattle.netlist.proofs.Grows.{accepted_at, accepted_weaker, marks_keep, reading_from}
+use Rattle.netlist.proofs.OneMore.{row_before, row_last, mark_each, name_kept}
+use Rattle.netlist.proofs.Resolved.{Pinned, Left, left_all, left_head, left_tail, resolved_all}
+use Rattle.netlist.proofs.Turns.{then_from}
+use Rattle.netlist.proofs.Words.{Before, Eight, Sound, said_sound, lines_before}
 
 -- only the names of the lines before matter
 keeps_with : (text : List ℕ) (rows more : List Row) (i : ℕ) → ((m : ℕ) → m < i → name_of text (row_at more m) ≡ name_of text (row_at rows m)) → (row : Row) (x : Statement) → Keeps text rows i row x → Keeps text more i row x
 keeps_with text rows more i same row Empty g = g
-keeps_with text rows more i same row (Declaration k s) g = g
-keeps_with text rows more i same row (Gate l k ps close) g =
+keeps_with text rows more i same row (Declaration d) g = g
+keeps_with text rows more i same row (Gate x close) g =
     record {
+      words = g.words;
+      given = g.given;
       kind = g.kind;
       count = g.count;
       lawful = g.lawful;
@@ -48,134 +51,67 @@ keeps_with text rows more i same row (Gate l k ps close) g =
 -- a mark changes nothing of it
 keeps_marked : (text : List ℕ) (rows : List Row) (i : ℕ) (row : Row) (x : Statement) → Keeps text rows i row x → Keeps text rows i (as_output row) x
 keeps_marked text rows i row Empty g = g
-keeps_marked text rows i row (Declaration k s) g = record { keyword = g.keyword; kind = g.kind; count = g.count; pins = g.pins; name = g.name }
-keeps_marked text rows i row (Gate l k ps close) g =
-    record { kind = g.kind; count = g.count; lawful = g.lawful; name = g.name; eight = g.eight; used = g.used; unused = g.unused }
-
--- the first i pins are set to the lines that their words name, and the others are 0
-record Pinned (text : List ℕ) (rows : List Row) (ss : List Span) (i : ℕ) (ns : List ℕ) : Type 0 where
-  eight : length ns ≡ 8
-  used : (j : ℕ) → j < i → (get_or ns j 0 < length rows) × (name_of text (row_at rows (get_or ns j 0)) ≡ bytes_of text (get_or ss j no_span))
-  unused : (j : ℕ) → i ≤ j → j < 8 → get_or ns j 0 ≡ 0
-
-pinned_more : (text : List ℕ) (rows : List Row) (ss : List Span) (i : ℕ) (ns : List ℕ) (n : ℕ) → i < 8 → (n < length rows) × (name_of text (row_at rows n) ≡ bytes_of text (get_or ss i no_span)) → Pinned text rows ss i ns → Pinned text rows ss (i + 1) (set ns i n)
-pinned_more text rows ss i ns n h at p =
-    let eight : length ns ≡ 8 = p.eight in
-    let Ok-pin : ℕ → ℕ → Type 0 = λ j m. (m < length rows) × (name_of text (row_at rows m) ≡ bytes_of text (get_or ss j no_span)) in
-    record {
-      eight = length-set ns i n ∙ eight;
-      used = λ j l.
-          elim (cases_eq j i) [
-            | inl e ↦ subst (λ m. Ok-pin m (get_or (set ns i n) m 0)) (sym e) (subst (Ok-pin i) (sym (get_or-set_same ns i n 0 (omega arith))) at)
-            | inr e ↦ subst (Ok-pin j) (sym (get_or-set_other ns i j n 0 e)) (p.used j (omega arith))
-          ];
-      unused = λ j l m. get_or-set_other ns i j n 0 (λ e. omega arith) ∙ p.unused j (omega arith) m;
-    }
-
-next_pins : List ℕ → List Row → List Span → ℕ → Result (List ℕ) NetlistFault → Result (List ℕ) NetlistFault
-next_pins text rows ss i (Ok more) = resolved text rows ss more (i + 1)
-next_pins text rows ss i (Err f) = Err f
-
-pins_step : (text : List ℕ) (rows : List Row) (all : List Span) (s : Span) (ss : List Span) (ns : List ℕ) (i : ℕ) →
-    i < 8 →
-    get_or all i no_span ≡ s →
-    Pinned text rows all i ns →
-    ((ms : List ℕ) → Pinned text rows all (i + 1) ms → Accepted (resolved text rows ss ms (i + 1)) (Pinned text rows all (length all))) →
-    (o : Option ℕ) → line_of text rows s ≡ o →
-    Accepted (next_pins text rows ss i (placed o s ns i)) (Pinned text rows all (length all))
-unfolding next_pins
-pins_step text rows all s ss ns i h e p go None found = tt
-pins_step text rows all s ss ns i h e p go (Some n) found =
-    let at = line_some text rows s n found in
-    go (set ns i n) (pinned_more text rows all i ns n h (at.0, at.1 ∙ ap (bytes_of text) (sym e)) p)
-
--- what is left of a list after its first n elements
-record Left {X : Type 0} (all : List X) (d : X) (n : ℕ) (xs : List X) : Type 0 where
-  long : n + length xs ≡ length all
-  each : (k : ℕ) → get_or all (n + k) d ≡ get_or xs k d
-
-left_all : {X : Type 0} (all : List X) (d : X) → Left all d 0 all
-left_all all d = record { long = omega arith; each = λ k. ap (λ m. get_or all m d) (omega arith) }
-
-left_head : {X : Type 0} (all : List X) (d : X) (n : ℕ) (x : X) (xs : List X) → Left all d n (x ∷ xs) → get_or all n d ≡ x
-left_head all d n x xs l = ap (λ m. get_or all m d) (omega arith) ∙ l.each 0
-
-left_tail : {X : Type 0} (all : List X) (d : X) (n : ℕ) (x : X) (xs : List X) → Left all d n (x ∷ xs) → Left all d (n + 1) xs
-left_tail all d n x xs l =
-    let long : n + length (x ∷ xs) ≡ length all = l.long in
-    record { long = omega arith; each = λ k. ap (λ m. get_or all m d) (omega arith) ∙ l.each (suc k) }
-
-resolved_pinned : (text : List ℕ) (rows : List Row) (all : List Span) → length all ≤ 8 → (ss : List Span) (ns : List ℕ) (i : ℕ) → Left all no_span i ss → Pinned text rows all i ns → Accepted (resolved text rows ss ns i) (Pinned text rows all (length all))
-unfolding resolved next_pins
-resolved_pinned text rows all h [] ns i l p =
-    let same : i ≡ length all = omega (arith, l.long) in
-    subst (λ n. Pinned text rows all n ns) same p
-resolved_pinned text rows all h (s ∷ ss) ns i l p =
-    pins_step text rows all s ss ns i (omega (arith, l.long)) (left_head all no_span i s ss l) p
-    (λ ms q. resolved_pinned text rows all h ss ms (i + 1) (left_tail all no_span i s ss l) q) (line_of text rows s) refl
-
-gate_if : (kind : Kind) → is_input (Some kind) ≡ false → is_gate (Some kind) ≡ true
-gate_if an_input off = absurd (both_ways true off refl)
-gate_if And off = refl
-gate_if Nand off = refl
-gate_if Or off = refl
-gate_if Nor off = refl
-gate_if Xor off = refl
-gate_if Xnor off = refl
-gate_if Not off = refl
-gate_if Buff off = refl
+keeps_marked text rows i row (Declaration d) g = record { keyword = g.keyword; kind = g.kind; count = g.count; pins = g.pins; name = g.name }
+keeps_marked text rows i row (Gate x close) g =
+    record { words = g.words; given = g.given; kind = g.kind; count = g.count; lawful = g.lawful; name = g.name; eight = g.eight; used = g.used; unused = g.unused }
 
 module _ (text : List ℕ) (rows : List Row) where
-  gate_keeps : (kind : Kind) (l k : Span) (ps : Pins) (r : Result (List ℕ) NetlistFault) → kind_of (bytes_of text k) ≡ Some kind → takes kind ps.count ≡ true → ps.count ≤ 8 → length ps.spans ≡ 8 → Accepted r (Pinned text rows (used_of ps) (length (used_of ps))) → Accepted (gate_row kind ps.count l r) (λ row. GateRow text rows (length rows) row l k ps)
-  gate_keeps kind l k ps (Ok ns) e t few eight p =
-      let long : length (used_of ps) ≡ ps.count = omega (arith, length-take ps.count ps.spans) in
-      record {
-        kind = sym e;
-        count = refl;
-        lawful = t;
-        name = refl;
-        eight = p.eight;
-        used = λ j h.
-            let at = p.used j (omega arith) in
-            (at.0, at.1 ∙ ap (bytes_of text) (get_or-take ps.count ps.spans j no_span h));
-        unused = λ j h m. p.unused j (omega arith) m;
-      }
-  gate_keeps kind l k ps (Err f) e t few eight p = tt
+  module _ (g : Gates) where
+    abbrev GateFor : Row → Type 0
+    GateFor row = GateRow text rows (length rows) row g
 
-  gates_keep : (o : Option Kind) (l k : Span) (ps : Pins) (close : ℕ) → kind_of (bytes_of text k) ≡ o → is_input o ≡ false → length ps.spans ≡ 8 → Accepted (gates text rows o l k ps close) (λ row. GateRow text rows (length rows) row l k ps)
-  gates_keep None l k ps close e off eight = tt
-  gates_keep (Some kind) l k ps close e off eight =
-      let P : Row → Type 0 = λ row. GateRow text rows (length rows) row l k ps in
-      cond_both (takes kind ps.count) _ _ (λ r. Accepted r P)
-      (λ t. cond_both (is_some (line_of text rows l)) _ _ (λ r. Accepted r P) (λ f. tt)
-      (λ f.
-      let few : ps.count ≤ 8 = at_most_eight kind ps.count (gate_if kind off) t in
-      gate_keeps kind l k ps (resolved text rows (used_of ps) (replicate 8 0) 0) e t few eight
-      (resolved_pinned text rows (used_of ps) (omega (arith, length-take ps.count ps.spans)) (used_of ps) (replicate 8 0) 0 (left_all (used_of ps) no_span)
-      (record { eight = refl; used = λ j h. absurd (omega arith); unused = λ j h m. get_or-replicate 8 j 0 0 m }))))
-      (λ t. tt)
+    gate_keeps : (kind : Kind) (ps : Pins) (r : Result (List ℕ) NetlistFault) → g.pins ≡ Some ps → kind_of (bytes_of text g.kind) ≡ Some kind → takes kind ps.count ≡ true → Eight (Some ps) → Accepted r (Pinned text rows (used_of ps) (length (used_of ps))) → Accepted (gate_row kind g.line ps.count r) GateFor
+    gate_keeps kind ps (Ok ns) given e t eight p =
+        let long : length (used_of ps) ≡ ps.count = omega (arith, length-take ps.count ps.spans, eight.0, eight.1) in
+        record {
+          words = ps;
+          given = given;
+          kind = sym e;
+          count = refl;
+          lawful = t;
+          name = refl;
+          eight = p.eight;
+          used = λ j h.
+              let at = p.used j (omega arith) in
+              (at.0, at.1 ∙ ap (bytes_of text) (get_or-take ps.count ps.spans j no_span h));
+          unused = λ j h m. p.unused j (omega arith) m;
+        }
+    gate_keeps kind ps (Err f) given e t eight p = tt
+
+    gate_with_keeps : (kind : Kind) (o : Option Pins) (close : ℕ) → g.pins ≡ o → kind_of (bytes_of text g.kind) ≡ Some kind → Eight o → Accepted (gate_with text rows kind g.line o close) GateFor
+    gate_with_keeps kind None close given e eight = tt
+    gate_with_keeps kind (Some ps) close given e eight =
+        cond_both (takes kind ps.count) _ _ (λ r. Accepted r GateFor)
+        (λ t. cond_both (is_some (line_of text rows g.line)) _ _ (λ r. Accepted r GateFor) (λ f. tt)
+        (λ f. gate_keeps kind ps (resolved text rows (used_of ps) (replicate 8 0) 0) given e t eight
+        (resolved_all text rows (used_of ps) (omega (arith, length-take ps.count ps.spans, eight.1)))))
+        (λ t. tt)
+
+    gates_keep : (o : Option Kind) (close : ℕ) → kind_of (bytes_of text g.kind) ≡ o → Eight g.pins → Accepted (gates text rows o g close) GateFor
+    gates_keep None close e eight = tt
+    gates_keep (Some kind) close e eight = gate_with_keeps kind g.pins close refl e eight
 
   -- the row that the statement defines, if it defines one
   abbrev RowFor : Statement → Option Row → Type 0
   RowFor x o = MatchOption o (Draws text x → ⊥) (λ row. Keeps text rows (length rows) row x)
 
-  defining_keeps : (l k : Span) (ps : Pins) (close : ℕ) (r : Result Row NetlistFault) → Accepted r (λ row. GateRow text rows (length rows) row l k ps) → Accepted (defining r) (RowFor (Gate l k ps close))
-  defining_keeps l k ps close (Ok row) a = a
-  defining_keeps l k ps close (Err f) a = tt
+  defining_keeps : (g : Gates) (close : ℕ) (r : Result Row NetlistFault) → Accepted r (λ row. GateRow text rows (length rows) row g) → Accepted (defining r) (RowFor (Gate g close))
+  defining_keeps g close (Ok row) a = a
+  defining_keeps g close (Err f) a = tt
 
-  declares_keeps : (o : Option Declares) (k s : Span) → declaration_of (bytes_of text k) ≡ o → Accepted (declares text rows o k s) (RowFor (Declaration k s))
-  declares_keeps None k s e = tt
-  declares_keeps (Some Output) k s e = λ d. let z : ◌≡◌ {A = Option Declares} (Some Input) (Some Output) = sym d ∙ e in let y : ◌≡◌ {A = ℕ} 0 1 = cc in omega arith
-  declares_keeps (Some Input) k s e =
-      cond_both (is_some (line_of text rows s)) _ _ (λ r. Accepted r (RowFor (Declaration k s))) (λ f. tt)
-      (λ f. cond_both (leb 256 (inputs rows)) _ _ (λ r. Accepted r (RowFor (Declaration k s))) (λ g. tt)
+  declares_keeps : (o : Option Port) (d : Declares) → port_of (bytes_of text d.keyword) ≡ o → Accepted (declares text rows o d) (RowFor (Declaration d))
+  declares_keeps None d e = tt
+  declares_keeps (Some Output) d e = λ draws. let z : ◌≡◌ {A = Option Port} (Some Input) (Some Output) = sym draws ∙ e in let y : ◌≡◌ {A = ℕ} 0 1 = cc in omega arith
+  declares_keeps (Some Input) d e =
+      cond_both (is_some (line_of text rows d.word)) _ _ (λ r. Accepted r (RowFor (Declaration d))) (λ f. tt)
+      (λ f. cond_both (leb 256 (inputs rows)) _ _ (λ r. Accepted r (RowFor (Declaration d))) (λ g. tt)
       (λ g. record { keyword = e; kind = refl; count = refl; pins = refl; name = refl }))
 
   defined_keeps : (x : Statement) → Sound text x → Accepted (defined text rows x) (RowFor x)
   defined_keeps Empty h = λ d. d
-  defined_keeps (Declaration k s) h = declares_keeps (declaration_of (bytes_of text k)) k s refl
-  defined_keeps (Gate l k ps close) h =
-      defining_keeps l k ps close (gates text rows (kind_of (bytes_of text k)) l k ps close) (gates_keep (kind_of (bytes_of text k)) l k ps close refl (kind_gate (bytes_of text k)) h.1)
+  defined_keeps (Declaration d) h = declares_keeps (port_of (bytes_of text d.keyword)) d refl
+  defined_keeps (Gate g close) h =
+      defining_keeps g close (gates text rows (kind_of (bytes_of text g.kind)) g close) (gates_keep g (kind_of (bytes_of text g.kind)) close refl h.1)
 
 -- the rows of the first n text lines
 record DrawnSoFar (text : List ℕ) (ls : List (List Tok)) (n : ℕ) (rows : List Row) : Type 0 where
@@ -280,18 +216,13 @@ module _ (text : List ℕ) (room : ℕ) (all : List (List Tok)) where
   line_draws n rows (Ok x) e d s = extended_draws n rows x e d (defined text rows x) (defined_keeps text rows x s)
   line_draws n rows (Err f) e d s = tt
 
-  next_draws : (n : ℕ) (ls : List (List Tok)) (r : Result (List Row) NetlistFault) → ((rows : List Row) → DrawnSoFar text all n rows → Accepted (rows_of text room rows ls) (DrawnSoFar text all (length all))) → Accepted r (DrawnSoFar text all n) → Accepted (next_rows text room ls r) (DrawnSoFar text all (length all))
-  unfolding next_rows
-  next_draws n ls (Ok more) go a = go more a
-  next_draws n ls (Err f) go a = tt
-
-  rows_drawn : (ls : List (List Tok)) → AllByRecursion (AllByRecursion (Before (length text))) ls → (n : ℕ) (rows : List Row) → Left all [] n ls → DrawnSoFar text all n rows → Accepted (rows_of text room rows ls) (DrawnSoFar text all (length all))
-  unfolding rows_of next_rows
+  rows_drawn : (ls : List (List Tok)) → AllByRecursion (AllByRecursion (Before (length text))) ls → (n : ℕ) (rows : List Row) → Left all [] n ls → DrawnSoFar text all n rows → Accepted (rows_of text room rows (map (said Start) ls)) (DrawnSoFar text all (length all))
+  unfolding in_turn
   rows_drawn [] a n rows l d =
       let same : n ≡ length all = omega (arith, l.long) in
       subst (λ m. DrawnSoFar text all m rows) same d
   rows_drawn (t ∷ ts) a n rows l d =
-      next_draws (n + 1) ts (after_line text room rows (said Start t)) (λ more q. rows_drawn ts a.1 (n + 1) more (left_tail all [] n t ts l) q)
+      then_from (after_line text room) (DrawnSoFar text all (length all)) (DrawnSoFar text all (n + 1)) (map (said Start) ts) (after_line text room rows (said Start t)) (λ more q. rows_drawn ts a.1 (n + 1) more (left_tail all [] n t ts l) q)
       (line_draws n rows (said Start t) (ap (said Start) (left_head all [] n t ts l)) d (said_sound text t a.0))
 
 drawn_all : (text : List ℕ) (rows : List Row) → DrawnSoFar text (lines_from text 0) (length (lines_from text 0)) rows → Drawn text rows
@@ -322,6 +253,6 @@ reading_drawn text room rows e =
     let all = lines_from text 0 in
     accepted_at (Drawn text) (reading text room) rows e
     (reading_from text room (Drawn text) (Drawn text)
-    (accepted_weaker (DrawnSoFar text all (length all)) (Drawn text) (rows_of text room [] all) (drawn_all text)
+    (accepted_weaker (DrawnSoFar text all (length all)) (Drawn text) (rows_of text room [] (map (said Start) all)) (drawn_all text)
     (rows_drawn text room all all (lines_before text) 0 [] (left_all all []) (drawn_none text all)))
     (marks_keep text (Drawn text) (drawn_mark text) all))

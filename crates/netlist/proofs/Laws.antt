@@ -1,10 +1,9 @@
 -- The laws of the lines of an accepted text.
-use Rattle.std.proofs.Common.{◌≡◌, ℕ, ◌+◌, ◌<◌, true, cond, List, [], ◌∷◌, ◌++◌, length, set, is_some, Some, None, Ok, Option, sym, refl, ap, ◌∙◌, subst, inl, inr, arith, length-set}
-use Rattle.std.proofs.lemmas.List.{length_push, get_or_push, get_or_append_left, get_or-set_same, get_or-set_other}
-use Rattle.std.proofs.lemmas.List.Sums.{sum_by-append, sum_by-set}
-use Rattle.std.proofs.lemmas.Bool.{cases_eq, cases_lt, cases_Bool, cond-true, cond-false}
+use Rattle.std.proofs.Common.{◌≡◌, ℕ, ◌<◌, true, List, [], ◌∷◌, ◌++◌, length, set, is_some, Some, None, Ok, Option, sym, refl, ap, ◌∙◌, inl, inr, arith, length-set}
+use Rattle.std.proofs.lemmas.List.{length_push}
+use Rattle.std.proofs.lemmas.Bool.{cases_lt, cases_Bool, cond-true, cond-false}
 use Rattle.circuit.specs.Kinds.{is_input}
-use Rattle.circuit.specs.Rows.{no_row, row_at, named, pins_of, counted, inputs, lawful, Below, Lawful}
+use Rattle.circuit.specs.Rows.{row_at, named, pins_of, counted, inputs, lawful, Below, Lawful}
 use Rattle.circuit.specs.declared.kind.Kind.{Kind}
 use Rattle.circuit.specs.declared.row.Row.{Row}
 use Rattle.circuit.proofs.Takes.{words_lawful}
@@ -12,36 +11,9 @@ use Rattle.netlist.specs.Accepted.{Accepted, NameIn}
 use Rattle.netlist.specs.Names.{name_of}
 use Rattle.netlist.specs.Reading.{as_output, reading}
 use Rattle.netlist.proofs.Found.{line_none}
+use Rattle.netlist.proofs.Inputs.{inputs_push, inputs_mark}
+use Rattle.netlist.proofs.OneMore.{row_before, row_last, row_each, mark_each, name_kept}
 use Rattle.netlist.proofs.Grows.{Fresh, accepted_at, reading_keeps}
-
--- one row more: a row of it is one of the rows before, or the new one
-module _ (rows : List Row) (row : Row) where
-  pub row_before : (i : ℕ) → i < length rows → row_at (rows ++ row ∷ []) i ≡ row_at rows i
-  row_before i h = get_or_append_left rows (row ∷ []) no_row i h
-
-  pub row_last : row_at (rows ++ row ∷ []) (length rows) ≡ row
-  row_last = get_or_push rows row no_row (length rows) refl
-
-  pub row_each : (P : ℕ → Row → Type 0) → ((i : ℕ) → i < length rows → P i (row_at rows i)) → P (length rows) row → (i : ℕ) → i < length (rows ++ row ∷ []) → P i (row_at (rows ++ row ∷ []) i)
-  row_each P f p i h =
-      elim (cases_lt i (length rows)) [
-        | inl l ↦ subst (P i) (sym (row_before i l)) (f i l)
-        | inr g ↦
-            let same : length rows ≡ i = omega (arith, length_push rows row) in
-            subst (λ k. P k (row_at (rows ++ row ∷ []) k)) same (subst (P (length rows)) (sym row_last) p)
-      ]
-
-  inputs_push : inputs (rows ++ row ∷ []) ≡ cond (is_input row.kind) 1 0 + inputs rows
-  inputs_push = omega (arith, sum_by-append (λ (r : Row). cond (is_input r.kind) 1 0) rows (row ∷ []))
-
--- one mark more: each row is as it was, or has the mark
-module _ (rows : List Row) (i : ℕ) (h : i < length rows) where
-  pub mark_each : (P : Row → Type 0) (k : ℕ) → (P (row_at rows k) → P (as_output (row_at rows k))) → P (row_at rows k) → P (row_at (set rows i (as_output (row_at rows i))) k)
-  mark_each P k f p =
-      elim (cases_eq k i) [
-        | inl e ↦ subst P (ap (λ m. as_output (row_at rows m)) e ∙ sym (get_or-set_same rows i (as_output (row_at rows i)) no_row h) ∙ ap (row_at (set rows i (as_output (row_at rows i)))) (sym e)) (f p)
-        | inr e ↦ subst P (sym (get_or-set_other rows i k (as_output (row_at rows i)) no_row e)) p
-      ]
 
 lawful_grow : (text : List ℕ) (rows : List Row) (row : Row) → length rows < 1024 → Fresh text rows row → Lawful rows → Lawful (rows ++ row ∷ [])
 lawful_grow text rows row h new l =
@@ -60,7 +32,7 @@ lawful_mark : (rows : List Row) (i : ℕ) → i < length rows → Lawful rows �
 lawful_mark rows i h l =
     let more = set rows i (as_output (row_at rows i)) in
     let long : length more ≡ length rows = length-set rows i (as_output (row_at rows i)) in
-    let same = sum_by-set (λ (r : Row). cond (is_input r.kind) 1 0) rows i (as_output (row_at rows i)) no_row h in
+    let same : inputs more ≡ inputs rows = inputs_mark rows i h in
     record {
       few_lines = omega (arith, long, l.few_lines);
       few_inputs = omega (arith, same, l.few_inputs);
@@ -102,9 +74,6 @@ unique_grow text rows row new u i j h k e =
           line_none text rows row.name new.new i (omega arith)
           (ap (name_of text) (sym (row_before rows row i (omega arith))) ∙ e ∙ ap (λ n. name_of text (row_at (rows ++ row ∷ []) n)) last ∙ ap (name_of text) (row_last rows row))
     ]
-
-pub name_kept : (text : List ℕ) (rows : List Row) (i : ℕ) → i < length rows → (k : ℕ) → name_of text (row_at (set rows i (as_output (row_at rows i))) k) ≡ name_of text (row_at rows k)
-name_kept text rows i h k = mark_each rows i h (λ r. name_of text r ≡ name_of text (row_at rows k)) k (λ p. p) refl
 
 -- what the rows so far keep
 pub record OwnLines (text : List ℕ) (rows : List Row) : Type 0 where

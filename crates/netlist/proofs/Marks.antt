@@ -1,5 +1,5 @@
 -- The lines that an accepted text marks are those of which it has an OUTPUT.
-use Rattle.std.proofs.Common.{◌≡◌, ℕ, zero, suc, ◌<◌, true, false, ◌⊎◌, List, [], ◌∷◌, ◌++◌, length, get_or, set, Some, None, Ok, Err, Decides, Option, Result, sym, refl, ap, ◌∙◌, subst, inl, inr, arith, length-set}
+use Rattle.std.proofs.Common.{◌≡◌, ℕ, zero, suc, ◌<◌, true, false, ◌⊎◌, List, [], ◌∷◌, ◌++◌, map, length, get_or, set, Some, None, Ok, Err, Decides, Option, Result, sym, refl, ap, ◌∙◌, subst, inl, inr, arith, length-set}
 use Rattle.std.proofs.lemmas.List.{get_or-set_same, get_or-set_other}
 use Rattle.std.proofs.lemmas.Bool.{cases_eq, cases_order, both_ways}
 use Rattle.circuit.specs.Rows.{no_row, row_at}
@@ -8,16 +8,18 @@ use Rattle.circuit.specs.declared.row.Span.{Span}
 use Rattle.netlist.specs.Accepted.{Accepted, SaysOutput, HasOutput, LinesOf}
 use Rattle.netlist.specs.Definitions.{line_of}
 use Rattle.netlist.specs.Names.{bytes_of, name_of}
-use Rattle.netlist.specs.Reading.{lines_from, output_word, as_output, marked_at, marked_by, marked_line, marked, reading}
+use Rattle.netlist.specs.Reading.{in_turn, lines_from, statements_from, output_word, as_output, marked_at, marked_by, marked_line, marked, reading}
 use Rattle.netlist.specs.Statements.{said}
 use Rattle.netlist.specs.Tokens.{Tok}
 use Rattle.netlist.specs.declared.fault.NetlistFault.{NetlistFault}
 use Rattle.netlist.specs.declared.fault.TokenFault.{TokenFault}
-use Rattle.netlist.specs.declared.statement.State.TheVariants.{Start}
+use Rattle.netlist.specs.declared.state.State.TheVariants.{Start}
 use Rattle.netlist.specs.declared.statement.Statement.{Statement}
 use Rattle.netlist.proofs.Found.{line_some}
-use Rattle.netlist.proofs.Grows.{Fresh, accepted_at, accepted_both, accepted_weaker, next_marks, rows_keep, reading_from}
-use Rattle.netlist.proofs.Laws.{row_each, mark_each, Unique, unique_grow, name_kept, OwnLines, reading_own}
+use Rattle.netlist.proofs.Grows.{Fresh, accepted_at, accepted_both, accepted_weaker, rows_keep, reading_from}
+use Rattle.netlist.proofs.Laws.{Unique, unique_grow, OwnLines, reading_own}
+use Rattle.netlist.proofs.OneMore.{row_each, mark_each, name_kept}
+use Rattle.netlist.proofs.Turns.{then_turn}
 use Rattle.netlist.proofs.Words.{lines_before}
 
 -- the rows with a mark at each name of S, and else as they were
@@ -109,15 +111,14 @@ module _ (text : List ℕ) (S : List ℕ → Type 0) (rows mid : List Row) (a : 
             elim says [ inl s ↦ b.stays i (omega arith) (a.sets i h s) | inr s ↦ b.sets i (omega arith) (subst S' (sym (a.names i)) s) ];
       }
 
-marks_then : (text : List ℕ) (S : List ℕ → Type 0) (rows : List Row) (ls : List (List Tok)) → Unique text rows → ((mid : List Row) → Unique text mid → Accepted (marked text mid ls) (Marked text (AnyOutput text ls) mid)) → (r : Result (List Row) NetlistFault) → Accepted r (Marked text S rows) → Accepted (next_marks text ls r) (Marked text (λ n. S n ⊎ AnyOutput text ls n) rows)
-unfolding next_marks
+marks_then : (text : List ℕ) (S : List ℕ → Type 0) (rows : List Row) (ls : List (List Tok)) → Unique text rows → ((mid : List Row) → Unique text mid → Accepted (marked text mid (map (said Start) ls)) (Marked text (AnyOutput text ls) mid)) → (r : Result (List Row) NetlistFault) → Accepted r (Marked text S rows) → Accepted (then_turn (marked_line text) (map (said Start) ls) r) (Marked text (λ n. S n ⊎ AnyOutput text ls n) rows)
 marks_then text S rows ls u go (Ok mid) a =
-    accepted_weaker (Marked text (AnyOutput text ls) mid) (Marked text (λ n. S n ⊎ AnyOutput text ls n) rows) (marked text mid ls)
+    accepted_weaker (Marked text (AnyOutput text ls) mid) (Marked text (λ n. S n ⊎ AnyOutput text ls n) rows) (marked text mid (map (said Start) ls))
     (λ more b. marked_then text S rows mid a (AnyOutput text ls) more b) (go mid (marked_unique text S rows mid a u))
 marks_then text S rows ls u go (Err f) a = tt
 
-all_marks : (text : List ℕ) (ls : List (List Tok)) (rows : List Row) → Unique text rows → Accepted (marked text rows ls) (Marked text (AnyOutput text ls) rows)
-unfolding marked next_marks
+all_marks : (text : List ℕ) (ls : List (List Tok)) (rows : List Row) → Unique text rows → Accepted (marked text rows (map (said Start) ls)) (Marked text (AnyOutput text ls) rows)
+unfolding in_turn
 all_marks text [] rows u = record { long = refl; names = λ i. refl; was = λ i h t. inl t; stays = λ i h t. t; sets = λ i h a. absurd a }
 all_marks text (l ∷ ls) rows u =
     marks_then text (SaysOutput text (said Start l)) rows ls u (all_marks text ls) (marked_line text rows (said Start l)) (line_marks text rows u (said Start l))
@@ -148,7 +149,7 @@ reading_outputs : (text : List ℕ) (room : ℕ) → Accepted (reading text room
 reading_outputs text room =
     reading_from text room (OutputsOf text) (Unmarked text)
     (rows_keep text room (Unmarked text) (unmarked_grow text) (lines_from text 0) (lines_before text) [] (record { unique = λ i j h k e. omega arith; off = λ i h. absurd (omega arith) }))
-    (λ rows m. accepted_weaker (Marked text (AnyOutput text (lines_from text 0)) rows) (OutputsOf text) (marked text rows (lines_from text 0)) (λ more a. outputs_right text rows more m a) (all_marks text (lines_from text 0) rows m.unique))
+    (λ rows m. accepted_weaker (Marked text (AnyOutput text (lines_from text 0)) rows) (OutputsOf text) (marked text rows (statements_from text 0)) (λ more a. outputs_right text rows more m a) (all_marks text (lines_from text 0) rows m.unique))
 
 -- what holds of the lines of each accepted text
 pub reading_lines : (text : List ℕ) (room : ℕ) (rows : List Row) → reading text room ≡ Ok rows → LinesOf text rows

@@ -1,22 +1,21 @@
 -- A text line is refused at the first token that is out of form or too long.
-use Rattle.std.proofs.Common.{◌≡◌, ℕ, ◌<◌, ◌≤◌, leb, ◌⊎◌, List, [], ◌∷◌, ◌++◌, length, Ok, Err, Result, sym, refl, ap, ◌∙◌, subst, inl, inr, ⊎_elim, append_assoc, arith}
+use Rattle.std.proofs.Common.{Continue, Break, ◌≡◌, ℕ, ◌<◌, ◌≤◌, leb, ◌⊎◌, List, [], ◌∷◌, ◌++◌, length, Some, Ok, Err, Option, Result, sym, refl, ap, ◌∙◌, subst, inl, inr, ⊎_elim, append_assoc, arith}
 use Rattle.std.specs.List.{AllByRecursion}
 use Rattle.std.proofs.ByRecursion.{All-push, All-append}
 use Rattle.std.proofs.lemmas.Bool.{cond_both}
 use Rattle.circuit.specs.declared.row.Span.{Span}
 use Rattle.netlist.specs.Grammar.{span_at, collected, PinWords, last_pin, more_pins, FormWith, empty, declaration, gate, Short, Form, OneEnd, only_end, after_word, after_mark, AnyLength, Viable, tok_place, Fair, Misfit, Overlong}
-use Rattle.netlist.specs.Statements.{no_pins, added, span_of, to, stepped, said}
+use Rattle.netlist.specs.Statements.{no_pins, more_added, span_of, to, stepped, said, Step}
 use Rattle.netlist.specs.Tokens.{Tok, word, mark, end}
 use Rattle.netlist.specs.declared.fault.TokenFault.{TokenFault}
 use Rattle.netlist.specs.declared.fault.TokenFault.TheVariants.{OutOfForm, TooLong}
-use Rattle.netlist.specs.declared.statement.Pins.{Pins}
-use Rattle.netlist.specs.declared.statement.State.{State}
-use Rattle.netlist.specs.declared.statement.State.TheVariants.{Start, Named, Declaring, Declared, Driven, Kinded, Opened, Pinned}
+use Rattle.netlist.specs.declared.pins.Pins.{Pins}
+use Rattle.netlist.specs.declared.state.State.{State}
+use Rattle.netlist.specs.declared.state.State.TheVariants.{Start, Named, Declaring, Declared, Driven, Kinded, Opened, Pinned}
 use Rattle.netlist.specs.declared.statement.Statement.{Statement}
 use Rattle.netlist.specs.declared.statement.Statement.TheVariants.{Empty, Gate}
-use Rattle.netlist.specs.declared.statement.Step.{Step}
-use Rattle.netlist.specs.declared.statement.Step.TheVariants.{To, Whole}
-use Rattle.netlist.proofs.Forms.{then_said, said_step, Reached, at_start, at_named, at_declaring, at_declared, at_closed, at_driven, at_kinded, at_opened, at_pinned, at_gate_closed, any_pins, any_reached, commas_push, Long, After, step, says_form}
+use Rattle.netlist.proofs.Said.{then_said, said_step}
+use Rattle.netlist.proofs.Forms.{declared, gated, Reached, at_start, at_named, at_declaring, at_declared, at_closed, at_driven, at_kinded, at_opened, at_pinned, at_gate_closed, any_pins, any_reached, commas_push, Long, After, step, says_form}
 
 -- the word that ends a line which lacks one
 letter : Tok
@@ -37,7 +36,7 @@ viable (at_driven h) = (letter ∷ mark 40 0 ∷ letter ∷ closing, _, gate 0 t
 viable (at_kinded h g) = (mark 40 0 ∷ letter ∷ closing, _, gate 0 tt tt (last_pin tt))
 viable (at_opened {l = l} {k = k} {pl = pl} {q = q} {pk = pk} {o = o} h g r e) = (letter ∷ closing, _, rw append_assoc at (gate {l = l} {k = k} {pl = pl} {q = q} {pk = pk} {o = o} {c = 0} 0 tt tt (commas_push AnyLength (65 ∷ []) 0 r tt)))
 viable (at_pinned h g r e) = (closing, _, gate 0 tt tt r)
-viable (at_gate_closed {l = l} {k = k} {pl = pl} {pk = pk} {c = c} {ss = ss} h g r e) = (end 0 ∷ [], Gate (span_at l pl) (span_at k pk) (collected ss) c, rw append_assoc (gate 0 tt tt r))
+viable (at_gate_closed {l = l} {k = k} {pl = pl} {pk = pk} {c = c} {ss = ss} h g r e) = (end 0 ∷ [], Gate (gated (span_at l pl) (span_at k pk) (collected ss)) c, rw append_assoc (gate 0 tt tt r))
 
 -- no token is out of form
 abbrev InForm : Result Statement TokenFault → Type 0
@@ -49,21 +48,21 @@ any_on : (s : State) (next : Span → State) (w : List ℕ) (p : ℕ) (ts : List
 any_on s next w p ts e f =
     subst InForm (sym (said_step s (word w p) ts ∙ ap (then_said ts) e)) (cond_both (leb (length w) 16) _ _ (λ r. InForm (then_said ts (to next r))) (λ _. f) (λ _. tt))
 
-pins_in_form : (l k : Span) (ps : Pins) (c e : ℕ) {ts : List Tok} {ss : List Span} → PinWords AnyLength ts ss → InForm (said (Opened l k ps) (ts ++ mark 41 c ∷ end e ∷ []))
+pins_in_form : (l k : Span) (ps : Option Pins) (c e : ℕ) {ts : List Tok} {ss : List Span} → PinWords AnyLength ts ss → InForm (said (Opened (gated l k ps)) (ts ++ mark 41 c ∷ end e ∷ []))
 unfolding said
-pins_in_form l k ps c e (last_pin {w = w} {p = p} h) = any_on (Opened l k ps) (λ s. Pinned l k (added ps s)) w p (mark 41 c ∷ end e ∷ []) refl tt
+pins_in_form l k ps c e (last_pin {w = w} {p = p} h) = any_on (Opened (gated l k ps)) (λ s. Pinned (gated l k (more_added ps s))) w p (mark 41 c ∷ end e ∷ []) refl tt
 pins_in_form l k ps c e (more_pins {w = w} {p = p} {c = d} {ts = ts} h r) =
-    any_on (Opened l k ps) (λ s. Pinned l k (added ps s)) w p (mark 44 d ∷ (ts ++ mark 41 c ∷ end e ∷ [])) refl (pins_in_form l k (added ps (span_at w p)) c e r)
+    any_on (Opened (gated l k ps)) (λ s. Pinned (gated l k (more_added ps s))) w p (mark 44 d ∷ (ts ++ mark 41 c ∷ end e ∷ [])) refl (pins_in_form l k (more_added ps (span_at w p)) c e r)
 
 in_form : {ts : List Tok} {x : Statement} → FormWith AnyLength ts x → InForm (said Start ts)
 unfolding said
 in_form empty = tt
 in_form (declaration {k = k} {n = n} {pk = pk} {o = o} {pn = pn} {c = c} {e = e} hk hn) =
     let rest = mark 41 c ∷ end e ∷ [] in
-    any_on Start (λ s. Named s) k pk (mark 40 o ∷ word n pn ∷ rest) refl (any_on (Declaring (span_at k pk)) (λ s. Declared (span_at k pk) s) n pn rest refl tt)
+    any_on Start (λ s. Named s) k pk (mark 40 o ∷ word n pn ∷ rest) refl (any_on (Declaring (span_at k pk)) (λ s. Declared (declared (span_at k pk) s)) n pn rest refl tt)
 in_form (gate {l = l} {k = k} {pl = pl} {q = q} {pk = pk} {o = o} {c = c} {ps = ps} e hl hk r) =
     let rest = mark 40 o ∷ (ps ++ mark 41 c ∷ end e ∷ []) in
-    any_on Start (λ s. Named s) l pl (mark 61 q ∷ word k pk ∷ rest) refl (any_on (Driven (span_at l pl)) (λ s. Kinded (span_at l pl) s) k pk rest refl (pins_in_form (span_at l pl) (span_at k pk) no_pins c e r))
+    any_on Start (λ s. Named s) l pl (mark 61 q ∷ word k pk ∷ rest) refl (any_on (Driven (span_at l pl)) (λ s. Kinded (span_at l pl) s) k pk rest refl (pins_in_form (span_at l pl) (span_at k pk) (Some no_pins) c e r))
 
 -- the rest of a line is read from the state that its beginning leads to
 abbrev Led : List Tok → State → Type 0
@@ -108,9 +107,9 @@ same_fault : (f g : TokenFault) → ◌≡◌ {A = Result Statement TokenFault} 
 same_fault f g e = cc
 
 -- the token is at fault, or else one after it
-found : (pre : List Tok) (s : State) (t : Tok) (ts : List Tok) (f : TokenFault) (r : Result Step TokenFault) → stepped s t ≡ r → After pre t r → Reached Short pre s → AllByRecursion Fair pre → Led pre s → then_said ts r ≡ Err f → ((n : State) → stepped s t ≡ Ok (To n) → Reached Short (pre ++ t ∷ []) n → Fair t → said n ts ≡ Err f → Refused ((pre ++ t ∷ []) ++ ts) f) → Refused (pre ++ t ∷ ts) f
-found pre s t ts f (Ok (To n)) is a r fair led e go = subst (λ us. Refused us f) (append_assoc pre (t ∷ []) ts) (go n is a.0 a.1 e)
-found pre s t ts f (Ok (Whole x)) is a r fair led e go = absurd (ok_not_err x f e)
+found : (pre : List Tok) (s : State) (t : Tok) (ts : List Tok) (f : TokenFault) (r : Step) → stepped s t ≡ r → After pre t r → Reached Short pre s → AllByRecursion Fair pre → Led pre s → then_said ts r ≡ Err f → ((n : State) → stepped s t ≡ Ok (Continue n) → Reached Short (pre ++ t ∷ []) n → Fair t → said n ts ≡ Err f → Refused ((pre ++ t ∷ []) ++ ts) f) → Refused (pre ++ t ∷ ts) f
+found pre s t ts f (Ok (Continue n)) is a r fair led e go = subst (λ us. Refused us f) (append_assoc pre (t ∷ []) ts) (go n is a.0 a.1 e)
+found pre s t ts f (Ok (Break x)) is a r fair led e go = absurd (ok_not_err x f e)
 found pre s t ts f (Err (OutOfForm p)) is a r fair led e go = subst (λ g. Refused (pre ++ t ∷ ts) g) (same_fault _ _ e) (misfit_here pre s t ts p r fair led is a)
 found pre s t ts f (Err (TooLong p)) is a r fair led e go = subst (λ g. Refused (pre ++ t ∷ ts) g) (same_fault _ _ e) (long_here pre t ts p fair a)
 

@@ -4,15 +4,13 @@ use Rattle.std.proofs.lemmas.Bool.{cond_both, cond-true, cond-false, leb-false, 
 use Rattle.circuit.specs.declared.row.Row.{Row}
 use Rattle.netlist.specs.Accepted.{Accepted}
 use Rattle.netlist.specs.Definitions.{defined, stored, extended}
-use Rattle.netlist.specs.Reading.{lines_from, after_line, rows_of, with_marks, reading}
-use Rattle.netlist.specs.Statements.{said}
-use Rattle.netlist.specs.Tokens.{Tok}
+use Rattle.netlist.specs.Reading.{in_turn, statements_from, after_line, rows_of, with_marks, reading}
 use Rattle.netlist.specs.declared.fault.NetlistFault.{NetlistFault}
 use Rattle.netlist.specs.declared.fault.NetlistFault.TheVariants.{TooLarge}
 use Rattle.netlist.specs.declared.fault.TokenFault.{TokenFault}
-use Rattle.netlist.specs.declared.statement.State.TheVariants.{Start}
 use Rattle.netlist.specs.declared.statement.Statement.{Statement}
-use Rattle.netlist.proofs.Grows.{accepted_at, next_rows}
+use Rattle.netlist.proofs.Grows.{accepted_at}
+use Rattle.netlist.proofs.Turns.{Said, then_turn}
 
 -- what the first result accepts, the second gives too
 abbrev Same : Result (List Row) NetlistFault → Result (List Row) NetlistFault → Type 0
@@ -38,15 +36,14 @@ module _ (text : List ℕ) (room more : ℕ) (h : room ≤ more) where
   line_longer rows (Ok x) = extended_longer rows (defined text rows x)
   line_longer rows (Err f) = tt
 
-  next_longer : (ls : List (List Tok)) (r q : Result (List Row) NetlistFault) → Same r q → ((rows : List Row) → Same (rows_of text room rows ls) (rows_of text more rows ls)) → Same (next_rows text room ls r) (next_rows text more ls q)
-  unfolding next_rows
-  next_longer ls (Ok rows) q e go = subst (λ x. Same (rows_of text room rows ls) (next_rows text more ls x)) (sym e) (go rows)
+  next_longer : (ls : List Said) (r q : Result (List Row) NetlistFault) → Same r q → ((rows : List Row) → Same (rows_of text room rows ls) (rows_of text more rows ls)) → Same (then_turn (after_line text room) ls r) (then_turn (after_line text more) ls q)
+  next_longer ls (Ok rows) q e go = subst (λ x. Same (rows_of text room rows ls) (then_turn (after_line text more) ls x)) (sym e) (go rows)
   next_longer ls (Err f) q e go = tt
 
-  rows_longer : (ls : List (List Tok)) (rows : List Row) → Same (rows_of text room rows ls) (rows_of text more rows ls)
-  unfolding rows_of next_rows
+  rows_longer : (ls : List Said) (rows : List Row) → Same (rows_of text room rows ls) (rows_of text more rows ls)
+  unfolding in_turn
   rows_longer [] rows = refl
-  rows_longer (l ∷ ls) rows = next_longer ls (after_line text room rows (said Start l)) (after_line text more rows (said Start l)) (line_longer rows (said Start l)) (rows_longer ls)
+  rows_longer (l ∷ ls) rows = next_longer ls (after_line text room rows l) (after_line text more rows l) (line_longer rows l) (rows_longer ls)
 
   marks_longer : (r q : Result (List Row) NetlistFault) → Same r q → Same (with_marks text r) (with_marks text q)
   marks_longer (Ok rows) q e = subst (λ x. Same (with_marks text (Ok rows)) (with_marks text x)) (sym e) (same_itself (with_marks text (Ok rows)))
@@ -55,9 +52,9 @@ module _ (text : List ℕ) (room more : ℕ) (h : room ≤ more) where
   pub reading_same : Accepted (reading text room) (λ rows. reading text more ≡ Ok rows)
   unfolding reading
   reading_same =
-      cond_both (leb (length text) 1048576) (with_marks text (rows_of text room [] (lines_from text 0))) (Err TooLarge) (λ r. Same r (reading text more))
-      (λ e. subst (Same (with_marks text (rows_of text room [] (lines_from text 0)))) (sym (cond-true _ _ _ e))
-      (marks_longer (rows_of text room [] (lines_from text 0)) (rows_of text more [] (lines_from text 0)) (rows_longer (lines_from text 0) [])))
+      cond_both (leb (length text) 1048576) (with_marks text (rows_of text room [] (statements_from text 0))) (Err TooLarge) (λ r. Same r (reading text more))
+      (λ e. subst (Same (with_marks text (rows_of text room [] (statements_from text 0)))) (sym (cond-true _ _ _ e))
+      (marks_longer (rows_of text room [] (statements_from text 0)) (rows_of text more [] (statements_from text 0)) (rows_longer (statements_from text 0) [])))
       (λ e. tt)
 
 -- an accepted text is accepted with any longer row memory, and gives the same lines

@@ -1,22 +1,20 @@
 -- The words of a text line, and the names and pins that its statement has.
-use Rattle.std.proofs.Common.{◌≡◌, ℕ, ◌+◌, ◌-◌, ◌≤◌, eqb, ltb, leb, List, [], ◌∷◌, ◌++◌, length, Ok, Err, Result, refl, ◌∙◌, arith, length-set}
+use Rattle.std.proofs.Common.{ControlFlow, Continue, Break, ◌≡◌, ℕ, ◌+◌, ◌-◌, ◌≤◌, eqb, leb, List, [], ◌∷◌, ◌++◌, length, IfSome, Some, None, Option, Ok, Err, refl, ◌∙◌, arith, length-set}
 use Rattle.std.specs.List.{AllByRecursion}
 use Rattle.std.proofs.lemmas.List.{length_push}
-use Rattle.std.proofs.lemmas.Bool.{cond_both, leb-true, eqb-false}
+use Rattle.std.proofs.lemmas.Bool.{cond_both, leb-true, leb-false, eqb-false}
 use Rattle.circuit.specs.declared.row.Span.{Span}
 use Rattle.netlist.specs.Accepted.{Accepted, NameIn}
 use Rattle.netlist.specs.Bytes.{word_byte, blank_byte, stop_byte}
 use Rattle.netlist.specs.Reading.{lines_from}
-use Rattle.netlist.specs.Statements.{added, span_of, to, on_word, on_mark, on_end, stepped, said}
+use Rattle.netlist.specs.Statements.{more_added, with_pin, span_of, to, on_word, on_mark, on_end, stepped, said, Step}
 use Rattle.netlist.specs.Tokens.{Tok, word, mark, end, flush, tokens, later}
-use Rattle.netlist.specs.declared.fault.TokenFault.{TokenFault}
-use Rattle.netlist.specs.declared.statement.Pins.{Pins}
-use Rattle.netlist.specs.declared.statement.State.{State}
-use Rattle.netlist.specs.declared.statement.State.TheVariants.{Start, Named, Declaring, Declared, DeclarationClosed, Driven, Kinded, Opened, Pinned, GateClosed}
+use Rattle.netlist.proofs.Said.{then_said}
+use Rattle.netlist.specs.declared.pins.Pins.{Pins}
+use Rattle.netlist.specs.declared.state.State.{State}
+use Rattle.netlist.specs.declared.state.State.TheVariants.{Start, Named, Declaring, Declared, DeclarationClosed, Driven, Kinded, Opened, Pinned, GateClosed}
 use Rattle.netlist.specs.declared.statement.Statement.{Statement}
 use Rattle.netlist.specs.declared.statement.Statement.TheVariants.{Empty, Declaration, Gate}
-use Rattle.netlist.specs.declared.statement.Step.{Step}
-use Rattle.netlist.specs.declared.statement.Step.TheVariants.{To, Whole}
 
 -- a word has a byte, and stands before place n
 abbrev pub Before : ℕ → Tok → Type 0
@@ -54,27 +52,31 @@ pub lines_before : (text : List ℕ) → AllByRecursion (AllByRecursion (Before 
 lines_before text =
     (tokens_before (length text) [] text 0 (omega arith) (omega arith), later_before (length text) text 0 (omega arith))
 
+-- as many places as a gate may have pins, and no more pins
+abbrev pub Eight : Option Pins → Type 0
+Eight o = IfSome o (λ ps. (length ps.spans ≡ 8) × (ps.count ≤ 8))
+
 -- the names of a statement stand in the text, and its pins are eight places
 abbrev pub Sound : List ℕ → Statement → Type 0
 Sound text Empty = Unit {0}
-Sound text (Declaration k s) = NameIn text s
-Sound text (Gate l k ps close) = NameIn text l × (length ps.spans ≡ 8)
+Sound text (Declaration d) = NameIn text d.word
+Sound text (Gate g close) = NameIn text g.line × Eight g.pins
 
 abbrev Ready : List ℕ → State → Type 0
 Ready text Start = Unit {0}
 Ready text (Named n) = NameIn text n
 Ready text (Declaring k) = Unit {0}
-Ready text (Declared k n) = NameIn text n
-Ready text (DeclarationClosed k n) = NameIn text n
+Ready text (Declared d) = NameIn text d.word
+Ready text (DeclarationClosed d) = NameIn text d.word
 Ready text (Driven l) = NameIn text l
 Ready text (Kinded l k) = NameIn text l
-Ready text (Opened l k ps) = NameIn text l × (length ps.spans ≡ 8)
-Ready text (Pinned l k ps) = NameIn text l × (length ps.spans ≡ 8)
-Ready text (GateClosed l k ps c) = NameIn text l × (length ps.spans ≡ 8)
+Ready text (Opened g) = NameIn text g.line × Eight g.pins
+Ready text (Pinned g) = NameIn text g.line × Eight g.pins
+Ready text (GateClosed g c) = NameIn text g.line × Eight g.pins
 
-abbrev Goes : List ℕ → Step → Type 0
-Goes text (To n) = Ready text n
-Goes text (Whole x) = Sound text x
+abbrev Goes : List ℕ → ControlFlow Statement State → Type 0
+Goes text (Continue n) = Ready text n
+Goes text (Break x) = Sound text x
 
 named_word : (text w : List ℕ) (p : ℕ) (next : Span → State) → 1 ≤ length w → p + length w ≤ length text → ((s : Span) → NameIn text s → Ready text (next s)) → Accepted (to next (span_of w p)) (Goes text)
 named_word text w p next h k f =
@@ -82,65 +84,60 @@ named_word text w p next h k f =
     (λ e. f (record { offset = p; len = length w }) (record { some = h; few = leb-true (length w) 16 e; inside = k }))
     (λ e. tt)
 
-added_eight : (ps : Pins) (s : Span) → length ps.spans ≡ 8 → length (added ps s).spans ≡ 8
-added_eight ps s e = cond_both (ltb ps.count 8) _ _ (λ (q : Pins). length q.spans ≡ 8) (λ t. length-set ps.spans ps.count s ∙ e) (λ t. e)
+added_eight : (o : Option Pins) (s : Span) → Eight o → Eight (more_added o s)
+added_eight None s e = tt
+added_eight (Some ps) s e = cond_both (leb 8 ps.count) _ _ Eight (λ t. tt) (λ t. (length-set ps.spans ps.count s ∙ e.0, omega (arith, leb-false 8 ps.count t)))
 
 word_goes : (text : List ℕ) (s : State) (w : List ℕ) (p : ℕ) → 1 ≤ length w → p + length w ≤ length text → Ready text s → Accepted (on_word s w p) (Goes text)
 word_goes text Start w p h k r = named_word text w p (λ s. Named s) h k (λ s n. n)
 word_goes text (Named n) w p h k r = tt
-word_goes text (Declaring d) w p h k r = named_word text w p (λ s. Declared d s) h k (λ s n. n)
-word_goes text (Declared d n) w p h k r = tt
-word_goes text (DeclarationClosed d n) w p h k r = tt
+word_goes text (Declaring d) w p h k r = named_word text w p (λ s. Declared (record { keyword = d; word = s })) h k (λ s n. n)
+word_goes text (Declared d) w p h k r = tt
+word_goes text (DeclarationClosed d) w p h k r = tt
 word_goes text (Driven l) w p h k r = named_word text w p (λ s. Kinded l s) h k (λ s n. r)
 word_goes text (Kinded l d) w p h k r = tt
-word_goes text (Opened l d ps) w p h k r = named_word text w p (λ s. Pinned l d (added ps s)) h k (λ s n. (r.0, added_eight ps s r.1))
-word_goes text (Pinned l d ps) w p h k r = tt
-word_goes text (GateClosed l d ps c) w p h k r = tt
+word_goes text (Opened g) w p h k r = named_word text w p (λ s. Pinned (with_pin g s)) h k (λ s n. (r.0, added_eight g.pins s r.1))
+word_goes text (Pinned g) w p h k r = tt
+word_goes text (GateClosed g c) w p h k r = tt
 
 mark_goes : (text : List ℕ) (s : State) (b p : ℕ) → Ready text s → Accepted (on_mark s b p) (Goes text)
 mark_goes text Start b p r = tt
 mark_goes text (Named n) b p r =
     cond_both (eqb b 40) _ _ (λ x. Accepted x (Goes text)) (λ e. tt) (λ e. cond_both (eqb b 61) _ _ (λ x. Accepted x (Goes text)) (λ e. r) (λ e. tt))
 mark_goes text (Declaring d) b p r = tt
-mark_goes text (Declared d n) b p r = cond_both (eqb b 41) _ _ (λ x. Accepted x (Goes text)) (λ e. r) (λ e. tt)
-mark_goes text (DeclarationClosed d n) b p r = tt
+mark_goes text (Declared d) b p r = cond_both (eqb b 41) _ _ (λ x. Accepted x (Goes text)) (λ e. r) (λ e. tt)
+mark_goes text (DeclarationClosed d) b p r = tt
 mark_goes text (Driven l) b p r = tt
-mark_goes text (Kinded l d) b p r = cond_both (eqb b 40) _ _ (λ x. Accepted x (Goes text)) (λ e. (r, refl)) (λ e. tt)
-mark_goes text (Opened l d ps) b p r = tt
-mark_goes text (Pinned l d ps) b p r =
+mark_goes text (Kinded l d) b p r = cond_both (eqb b 40) _ _ (λ x. Accepted x (Goes text)) (λ e. (r, (refl, omega arith))) (λ e. tt)
+mark_goes text (Opened g) b p r = tt
+mark_goes text (Pinned g) b p r =
     cond_both (eqb b 44) _ _ (λ x. Accepted x (Goes text)) (λ e. r) (λ e. cond_both (eqb b 41) _ _ (λ x. Accepted x (Goes text)) (λ e. r) (λ e. tt))
-mark_goes text (GateClosed l d ps c) b p r = tt
+mark_goes text (GateClosed g c) b p r = tt
 
 end_goes : (text : List ℕ) (s : State) (p : ℕ) → Ready text s → Accepted (on_end s p) (Goes text)
 end_goes text Start p r = tt
 end_goes text (Named n) p r = tt
 end_goes text (Declaring d) p r = tt
-end_goes text (Declared d n) p r = tt
-end_goes text (DeclarationClosed d n) p r = r
+end_goes text (Declared d) p r = tt
+end_goes text (DeclarationClosed d) p r = r
 end_goes text (Driven l) p r = tt
 end_goes text (Kinded l d) p r = tt
-end_goes text (Opened l d ps) p r = tt
-end_goes text (Pinned l d ps) p r = tt
-end_goes text (GateClosed l d ps c) p r = r
+end_goes text (Opened g) p r = tt
+end_goes text (Pinned g) p r = tt
+end_goes text (GateClosed g c) p r = r
 
 step_goes : (text : List ℕ) (s : State) (t : Tok) → Before (length text) t → Ready text s → Accepted (stepped s t) (Goes text)
 step_goes text s (word w p) h r = word_goes text s w p h.0 h.1 r
 step_goes text s (mark b p) h r = mark_goes text s b p r
 step_goes text s (end p) h r = end_goes text s p r
 
-next_said : List Tok → Result Step TokenFault → Result Statement TokenFault
-next_said ts (Ok (To n)) = said n ts
-next_said ts (Ok (Whole x)) = Ok x
-next_said ts (Err f) = Err f
-
-said_from : (text : List ℕ) (ts : List Tok) → ((s : State) → Ready text s → Accepted (said s ts) (Sound text)) → (r : Result Step TokenFault) → Accepted r (Goes text) → Accepted (next_said ts r) (Sound text)
-unfolding next_said
-said_from text ts f (Ok (To n)) g = f n g
-said_from text ts f (Ok (Whole x)) g = g
+said_from : (text : List ℕ) (ts : List Tok) → ((s : State) → Ready text s → Accepted (said s ts) (Sound text)) → (r : Step) → Accepted r (Goes text) → Accepted (then_said ts r) (Sound text)
+said_from text ts f (Ok (Continue n)) g = f n g
+said_from text ts f (Ok (Break x)) g = g
 said_from text ts f (Err e) g = tt
 
 said_ready : (text : List ℕ) (ts : List Tok) → AllByRecursion (Before (length text)) ts → (s : State) → Ready text s → Accepted (said s ts) (Sound text)
-unfolding said next_said
+unfolding said
 said_ready text [] a s r = tt
 said_ready text (t ∷ ts) a s r = said_from text ts (said_ready text ts a.1) (stepped s t) (step_goes text s t a.0 r)
 

@@ -9,7 +9,7 @@ use Rattle.netlist.specs.Statements.{said}
 use Rattle.netlist.specs.Tokens.{Tok}
 use Rattle.netlist.specs.declared.fault.NetlistFault.{NetlistFault}
 use Rattle.netlist.specs.declared.fault.TokenFault.{TokenFault}
-use Rattle.netlist.specs.declared.statement.State.TheVariants.{Start}
+use Rattle.netlist.specs.declared.state.State.TheVariants.{Start}
 use Rattle.netlist.specs.declared.statement.Statement.{Statement}
 
 -- P of what a result holds, where it is no refusal

@@ -1,12 +1,12 @@
 -- What a well-formed text line is, and what it says.
-use Rattle.std.specs.Prelude.{◌≡◌, ℕ, ◌<◌, ◌≤◌, List, [], ◌∷◌, ◌++◌, length, Ok, Err, fold}
+use Rattle.std.specs.Prelude.{◌≡◌, ℕ, ◌<◌, ◌≤◌, List, [], ◌∷◌, ◌++◌, length, Some, Ok, Err, Option, fold}
 use Rattle.std.specs.List.{AllByRecursion}
 use Rattle.circuit.specs.declared.row.Span.{Span}
-use Rattle.netlist.specs.Statements.{no_pins, added, said}
+use Rattle.netlist.specs.Statements.{no_pins, more_added, said}
 use Rattle.netlist.specs.Tokens.{Tok, word, mark, end, line}
 use Rattle.netlist.specs.declared.fault.TokenFault.TheVariants.{OutOfForm, TooLong}
-use Rattle.netlist.specs.declared.statement.Pins.{Pins}
-use Rattle.netlist.specs.declared.statement.State.TheVariants.{Start}
+use Rattle.netlist.specs.declared.pins.Pins.{Pins}
+use Rattle.netlist.specs.declared.state.State.TheVariants.{Start}
 use Rattle.netlist.specs.declared.statement.Statement.{Statement}
 use Rattle.netlist.specs.declared.statement.Statement.TheVariants.{Empty, Declaration, Gate}
 
@@ -15,8 +15,8 @@ abbrev pub span_at : List ℕ → ℕ → Span
 span_at w p = record { offset = p; len = length w }
 
 -- the pins of a gate, from the first to the last
-abbrev pub collected : List Span → Pins
-collected ss = fold added no_pins ss
+abbrev pub collected : List Span → Option Pins
+collected ss = fold more_added (Some no_pins) ss
 
 -- Pin words with commas, 44, between them, and where they stand. Fit holds of the length of each.
 pub data PinWords (Fit : ℕ → Type 0) : List Tok → List Span → Type 0 where
@@ -27,8 +27,8 @@ pub data PinWords (Fit : ℕ → Type 0) : List Tok → List Span → Type 0 whe
 -- and 61 is the equals sign.
 pub data FormWith (Fit : ℕ → Type 0) : List Tok → Statement → Type 0 where
   empty : {p : ℕ} → FormWith Fit (end p ∷ []) Empty
-  declaration : {k n : List ℕ} {pk o pn c e : ℕ} → Fit (length k) → Fit (length n) → FormWith Fit (word k pk ∷ mark 40 o ∷ word n pn ∷ mark 41 c ∷ end e ∷ []) (Declaration (span_at k pk) (span_at n pn))
-  gate : {l k : List ℕ} {pl q pk o c : ℕ} {ps : List Tok} {ss : List Span} (e : ℕ) → Fit (length l) → Fit (length k) → PinWords Fit ps ss → FormWith Fit (word l pl ∷ mark 61 q ∷ word k pk ∷ mark 40 o ∷ (ps ++ mark 41 c ∷ end e ∷ [])) (Gate (span_at l pl) (span_at k pk) (collected ss) c)
+  declaration : {k n : List ℕ} {pk o pn c e : ℕ} → Fit (length k) → Fit (length n) → FormWith Fit (word k pk ∷ mark 40 o ∷ word n pn ∷ mark 41 c ∷ end e ∷ []) (Declaration (record { keyword = span_at k pk; word = span_at n pn }))
+  gate : {l k : List ℕ} {pl q pk o c : ℕ} {ps : List Tok} {ss : List Span} (e : ℕ) → Fit (length l) → Fit (length k) → PinWords Fit ps ss → FormWith Fit (word l pl ∷ mark 61 q ∷ word k pk ∷ mark 40 o ∷ (ps ++ mark 41 c ∷ end e ∷ [])) (Gate (record { line = span_at l pl; kind = span_at k pk; pins = collected ss }) c)
 
 -- a word has at most 16 bytes
 abbrev pub Short : ℕ → Type 0

@@ -1,6 +1,5 @@
 -- The tokens of the text lines.
-use Rattle.std.specs.Prelude.{◌≡◌, ℕ, ◌+◌, ◌-◌, ◌<◌, ◌≤◌, cond, List, [], ◌∷◌, ◌++◌, length, drop, Some, None, Option, ◌==◌}
-use Rattle.std.specs.List.{between}
+use Rattle.std.specs.Prelude.{if◌then◌else◌, ◌≡◌, ℕ, ◌+◌, ◌-◌, ◌<◌, ◌≤◌, List, [], ◌∷◌, ◌++◌, length, drop, Some, None, Option, ◌==◌}
 use Rattle.netlist.specs.Bytes.{word_byte, blank_byte, stop_byte}
 use Rattle.netlist.specs.declared.token.Token.{Token}
 use Rattle.netlist.specs.declared.token.Token.TheVariants.{Word, Mark, End}
@@ -13,14 +12,16 @@ pub data Tok : Type 0 where
 
 -- the word that ends before place p, if there is one, and then ts
 unfoldable pub flush : List ℕ → ℕ → List Tok → List Tok
-flush w p ts = cond (length w == 0) ts (word w (p - length w) ∷ ts)
+flush w p ts = if length w == 0 then ts else word w (p - length w) ∷ ts
 
 -- the tokens of a line whose rest, from place p on, is bs; w is the word read so far
 unfoldable pub tokens : List ℕ → List ℕ → ℕ → List Tok
 tokens w [] p = flush w p (end p ∷ [])
 tokens w (b ∷ bs) p =
-    cond (word_byte b) (tokens (w ++ b ∷ []) bs (p + 1))
-    (flush w p (cond (blank_byte b) (tokens [] bs (p + 1)) (cond (stop_byte b) (end p ∷ []) (mark b p ∷ tokens [] bs (p + 1)))))
+    if word_byte b then tokens (w ++ b ∷ []) bs (p + 1)
+    else flush w p
+    (if blank_byte b then tokens [] bs (p + 1)
+    else (if stop_byte b then end p ∷ [] else mark b p ∷ tokens [] bs (p + 1)))
 
 abbrev pub tok : Token → Tok
 tok (Word bytes p) = word bytes.now p
@@ -36,27 +37,19 @@ place_of (End p) = p
 abbrev pub line : List ℕ → ℕ → List Tok
 line text at = tokens [] (drop at text) at
 
+-- the same, or none after the line's end
+abbrev pub tokens_of : List ℕ → Option ℕ → List Tok
+tokens_of text None = []
+tokens_of text (Some at) = line text at
+
 -- the tokens of each text line that begins after a byte 10 of bs, which stands at p
 unfoldable pub later : List ℕ → ℕ → List (List Tok)
 later [] p = []
-later (b ∷ bs) p = cond (b == 10) (tokens [] bs (p + 1) ∷ later bs (p + 1)) (later bs (p + 1))
+later (b ∷ bs) p = if b == 10 then tokens [] bs (p + 1) ∷ later bs (p + 1) else later bs (p + 1)
 
 -- the text lines that begin after place p
 abbrev pub lines_after : List ℕ → ℕ → List (List Tok)
 lines_after text p = later (drop p text) p
-
--- the word that begins at p ends before `after`
-pub record WordEnds (text : List ℕ) (p after : ℕ) : Type 0 where
-  pub longer : p < after
-  pub inside : after ≤ length text
-  pub is : line text p ≡ word (between p after text) p ∷ line text after
-  pub passes : lines_after text after ≡ lines_after text p
-
--- t is the first token from `at` on, and the next is looked for from `after` on
-abbrev pub First : List ℕ → ℕ → Token → ℕ → Type 0
-First text at (Word bytes p) after = (line text at ≡ word bytes.now p ∷ line text after) × (p < after) × (at ≤ p) × (after ≤ length text) × (p + length bytes.now ≡ after)
-First text at (Mark b p) after = (line text at ≡ mark b p ∷ line text after) × (p < after) × (at ≤ p) × (after ≤ length text)
-First text at (End p) after = (line text at ≡ end p ∷ []) × (p ≡ after) × (at ≤ p) × (after ≤ length text)
 
 -- the text line after the one at `at`, if there is one, begins there
 abbrev pub Next : List ℕ → ℕ → Option ℕ → Type 0

@@ -33,16 +33,16 @@ pub enum NetlistFault {
 impl From<TokenFault> for NetlistFault {
     ghost from_gives = { λ e r. r ≡ Token e };
 
-    fn from(fault: TokenFault) -> NetlistFault {
+    fn from(fault: TokenFault) -> Self {
         NetlistFault::Token(fault)
     }
 }
 
-impl NetlistFault {
-    pub fn refusal(self) -> Refusal
-        ensures { result ≡ refusal_of self }
-    {
-        let (number, place) = match self {
+impl From<NetlistFault> for Refusal {
+    ghost from_gives = { λ e r. r ≡ refusal_of e };
+
+    fn from(fault: NetlistFault) -> Self {
+        let (number, place) = match fault {
             NetlistFault::TooLarge => (1, MAX_TEXT),
             NetlistFault::Token(TokenFault::OutOfForm { place }) => (2, place),
             NetlistFault::Token(TokenFault::TooLong { place }) => (3, place),

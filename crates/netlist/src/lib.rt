@@ -12,10 +12,18 @@
 
 #![tactic(auto)]
 
+pub mod byte;
 mod define;
 pub mod fault;
 mod keyword;
+mod lines;
+mod mark;
 pub mod name;
+mod pins;
 pub mod read;
+mod state;
 mod statement;
+mod statements;
+mod text;
 mod token;
+mod tokens;

@@ -9,11 +9,7 @@ pub(crate) fn part<'a>(text: &'a [u8], span: Span) -> &'a [u8]
 {
     let start = span.offset as usize;
     let end = start + span.len as usize;
-    if end <= text.len() {
-        &text[start..end]
-    } else {
-        &[]
-    }
+    text.get(start..end).unwrap_or(&[])
 }
 
 // The name of a row's line: a part of the text that the row was read from, or the empty part where

@@ -1,6 +1,10 @@
-ghost use Rattle.std.specs.Prelude.{◌≡◌, ◌<◌, ◌≤◌, true, false, length, slice_index};
-ghost use Rattle.netlist.specs.Bytes.{word_byte, blank_byte, stop_byte};
-ghost use Rattle.netlist.specs.Tokens.{First, place_of, line, lines_after, Next, WordEnds};
+ghost use Rattle.std.specs.Prelude.{◌≡◌, ◌≤◌, ◌∷◌, length};
+ghost use Rattle.std.specs.List.{prefix_len};
+ghost use Rattle.std.specs.Option.{ForSome};
+ghost use Rattle.netlist.specs.Bytes.{word_byte, blank_byte};
+ghost use Rattle.netlist.specs.Tokens.{line, place_of, tok, tokens_of};
+
+use crate::byte::{is_blank, is_stop, is_word_byte};
 
 // A token of a text line. A word borrows its part of the text. The end of the line stands at its byte 10,
 // at its `#` or at the text's end.
@@ -21,95 +25,43 @@ impl Token<'_> {
     }
 }
 
-// Words are made of letters, digits and underscores.
-fn is_word_byte(byte: u8) -> bool
-    ensures { result ≡ word_byte byte }
+// How many blanks the text begins with.
+fn blanks(text: &[u8]) -> usize
+    ensures value { result ≡ prefix_len blank_byte text.now }
+    ensures few { result ≤ length text.now }
 {
-    (b'0' <= byte && byte <= b'9')
-        || (b'A' <= byte && byte <= b'Z')
-        || (b'a' <= byte && byte <= b'z')
-        || byte == b'_'
+    text.iter().take_while(|byte| is_blank(**byte)).count()
 }
 
-fn is_blank(byte: u8) -> bool
-    ensures { result ≡ blank_byte byte }
+// How long the word is that the text begins with.
+fn word_len(text: &[u8]) -> usize
+    ensures value { result ≡ prefix_len word_byte text.now }
+    ensures few { result ≤ length text.now }
 {
-    byte == b' ' || byte == b'\t' || byte == b'\r'
+    text.iter().take_while(|byte| is_word_byte(**byte)).count()
 }
 
-// A text line's tokens end at its byte 10, and before that at a `#`, which hides the rest.
-fn is_stop(byte: u8) -> bool
-    ensures { result ≡ stop_byte byte }
-{
-    byte == b'\n' || byte == b'#'
-}
-
-fn skip_blanks(text: &[u8], at: usize) -> usize
+// The first token from `at` on, and where the next one is looked for; none after the line's end.
+pub(crate) fn next_token<'a>(text: &'a [u8], at: usize) -> (Token<'a>, Option<usize>)
     requires { at ≤ length text.now }
-    ensures after { (at ≤ result) × (result ≤ length text.now) }
-    ensures tokens { line text.now result ≡ line text.now at }
-    ensures passes { lines_after text.now result ≡ lines_after text.now at }
-    ensures solid { result < length text.now → blank_byte (slice_index text.now result) ≡ false }
+    ensures first { line text.now at ≡ tok result.0 ∷ tokens_of text.now result.1 }
+    ensures inside { ForSome result.1 (λ next. next ≤ length text.now) }
 {
-    let mut start = at;
-    while start < text.len() && is_blank(text[start]) {
-        start += 1;
-    }
-    start
-}
-
-// The end of the word that begins at `start`.
-fn word_end(text: &[u8], start: usize) -> usize
-    requires { (start < length text.now) × (word_byte (slice_index text.now start) ≡ true) }
-    ensures { WordEnds text.now start result }
-{
-    let mut end = start + 1;
-    while end < text.len() && is_word_byte(text[end]) {
-        end += 1;
-    }
-    end
-}
-
-// The first token from `at` on, and where the next one is looked for.
-pub(crate) fn next_token<'a>(text: &'a [u8], at: usize) -> (Token<'a>, usize)
-    requires { at ≤ length text.now }
-    ensures first { First text.now at result.0 result.1 }
-    ensures passes { lines_after text.now result.1 ≡ lines_after text.now at }
-{
-    let start = skip_blanks(text, at);
+    let start = at + blanks(&text[at..]);
     if start >= text.len() || is_stop(text[start]) {
-        return (Token::End { place: start }, start);
+        return (Token::End { place: start }, None);
     }
     if !is_word_byte(text[start]) {
-        return (
-            Token::Mark {
-                byte: text[start],
-                place: start,
-            },
-            start + 1,
-        );
-    }
-    let end = word_end(text, start);
-    (
-        Token::Word {
-            bytes: &text[start..end],
+        let mark = Token::Mark {
+            byte: text[start],
             place: start,
-        },
-        end,
-    )
-}
-
-// Where the text line after the one at `at` begins; none where the text ends first.
-pub(crate) fn next_line(text: &[u8], at: usize) -> Option<usize>
-    requires { at ≤ length text.now }
-    ensures { Next text.now at result }
-{
-    let mut here = at;
-    while here < text.len() {
-        if text[here] == b'\n' {
-            return Some(here + 1);
-        }
-        here += 1;
+        };
+        return (mark, Some(start + 1));
     }
-    None
+    let end = start + word_len(&text[start..]);
+    let word = Token::Word {
+        bytes: &text[start..end],
+        place: start,
+    };
+    (word, Some(end))
 }

@@ -3,6 +3,7 @@
 #![tactic(auto)]
 
 use circuit::kind::Kind;
+use circuit::refusal::Refusal;
 use circuit::row::{Row, Span};
 use netlist::read::read;
 
@@ -81,7 +82,7 @@ pub(crate) fn show(
             "{title}: lines {lines} inputs {inputs} outputs {outputs} blank {blanks}"
         ),
         Err(fault) => {
-            let refusal = fault.refusal();
+            let refusal = Refusal::from(fault);
             let number = refusal.number;
             let place = refusal.place;
             let layer = refusal.layer.name();

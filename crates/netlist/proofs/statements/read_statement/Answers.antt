@@ -1,0 +1,35 @@
+use Rattle.std.proofs.Common.{[], length, drop, Ok, sym, refl, ap, ◌∙◌, subst, arith, length-drop}
+use Rattle.std.specs.List.{AllByRecursion}
+use Rattle.std.proofs.lemmas.Result.{err_from_is_err_and}
+use Rattle.netlist.specs.Tokens.{tokens_of}
+use Rattle.netlist.proofs.Forms.{line_one_end}
+use Rattle.netlist.proofs.Said.{said_first, ends_on}
+use Rattle.netlist.proofs.Words.{Before, tokens_before}
+use Rattle.netlist.proofs.statements.read_statement.Goals as goal
+
+pub loop-token-init : goal.loop-token-init
+loop-token-init c =
+    let text = c.args.text.bytes.now in
+    let at = c.args.at in
+    let all = ap (λ s. tokens_of s.text.now s.next) c.into_iter-token-iterator.ensures.into_iter_gives in
+    rw all (refl, line_one_end text at, tokens_before (length text) [] (drop at text) at (omega arith) (omega (arith, c.requires, length-drop at text)))
+
+pub loop-token-preserved : goal.loop-token-preserved
+loop-token-preserved c =
+    let steps = c.in-Some.ensures.steps in
+    let leads = sym c.advance.ensures ∙ c.in_ok-next.was ∙ ap Ok c.in-Continue.is in (
+      sym (said_first c.loop-token.state _ _ _ _ steps leads) ∙ c.loop-token.invariant.0,
+      ends_on c.loop-token.state c.in-Continue.next _ _ _ steps leads c.loop-token.invariant.1,
+      (subst (AllByRecursion (Before (length c.args.text.bytes.now))) steps c.loop-token.invariant.2).1,
+    )
+
+pub returns-in-Break : goal.returns-in-Break
+returns-in-Break c =
+    let leads = sym c.advance.ensures ∙ c.in_ok-next.was ∙ ap Ok c.in-Break.is in
+    sym (said_first c.loop-token.state _ _ _ _ c.in-Some.ensures.steps leads) ∙ c.loop-token.invariant.0
+
+pub returns-in_err-next : goal.returns-in_err-next
+returns-in_err-next c =
+    let leads = sym c.advance.ensures ∙ c.in_err-next.was in
+    let p = err_from_is_err_and c.from_residual.result c.from_residual.ensures.1 in
+    rw (p.1, p.2) (sym (said_first c.loop-token.state _ _ _ _ c.in-Some.ensures.steps leads) ∙ c.loop-token.invariant.0)
