@@ -7,7 +7,7 @@ use circuit::refusal::{Layer, Refusal};
 use netlist::fault::NetlistFault;
 
 // Why a job is refused as a whole.
-#[derive(Clone, Copy)]
+#[derive(Clone, Copy, PartialEq, Eq, Debug)]
 pub enum JobFault {
     TooLarge,
     NoPercentLine { length: usize },
@@ -29,7 +29,7 @@ impl From<JobFault> for Refusal {
         let (number, place) = match fault {
             JobFault::TooLarge => (1, MAX_JOB),
             JobFault::NoPercentLine { length } => (22, length),
-            JobFault::Netlist(fault) => return fault.refusal(),
+            JobFault::Netlist(fault) => return fault.into(),
         };
         Refusal {
             number,

@@ -4,6 +4,7 @@ ghost use Rattle.job.specs.Parts.{Split, percent_line};
 ghost use Rattle.netlist.specs.Bytes.{blank_byte};
 
 use crate::fault::JobFault;
+use netlist::byte::is_blank;
 
 pub const MAX_JOB: usize = 32_768;
 
@@ -12,12 +13,6 @@ pub const MAX_JOB: usize = 32_768;
 pub struct Job<'a> {
     pub netlist: &'a [u8],
     pub vectors: &'a [u8],
-}
-
-fn is_blank(byte: u8) -> bool
-    ensures { result ≡ blank_byte byte }
-{
-    byte == b' ' || byte == b'\t' || byte == b'\r'
 }
 
 fn is_percent_or_blank(byte: u8) -> bool

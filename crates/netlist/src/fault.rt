@@ -8,14 +8,14 @@ use circuit::refusal::{Layer, Refusal};
 pub const MAX_TEXT: usize = 1_048_576;
 
 // Why a token is refused.
-#[derive(Clone, Copy)]
+#[derive(Clone, Copy, PartialEq, Eq, Debug)]
 pub enum TokenFault {
     OutOfForm { place: usize },
     TooLong { place: usize },
 }
 
 // Why a netlist text is refused, with the byte offset of what is at fault.
-#[derive(Clone, Copy)]
+#[derive(Clone, Copy, PartialEq, Eq, Debug)]
 pub enum NetlistFault {
     TooLarge,
     Token(TokenFault),

@@ -4,7 +4,7 @@
 
 use circuit::kind::Kind;
 use circuit::refusal::Refusal;
-use circuit::row::{Row, Span};
+use circuit::row::{Row, Span, input_count};
 use netlist::read::read;
 
 mod accepted;
@@ -29,65 +29,21 @@ pub struct Case {
     pub text: &'static [u8],
 }
 
-// How many of the rows are inputs, outputs and blank.
-struct Facts {
-    inputs: usize,
-    outputs: usize,
-    blanks: usize,
-}
-
-// Whether no field of the row holds anything.
-fn is_wiped(row: &Row) -> bool {
-    row.is_blank()
-        && row.count == 0
-        && row.pins == [0; 8]
-        && !row.output
-        && row.name == Span { offset: 0, len: 0 }
-}
-
-fn facts_of(rows: &[Row]) -> Facts {
-    let mut facts = Facts {
-        inputs: 0,
-        outputs: 0,
-        blanks: 0,
-    };
-    for row in rows {
-        if row.is_input() {
-            facts.inputs = facts.inputs.saturating_add(1);
-        }
-        if row.output {
-            facts.outputs = facts.outputs.saturating_add(1);
-        }
-        if is_wiped(row) {
-            facts.blanks = facts.blanks.saturating_add(1);
-        }
-    }
-    facts
-}
-
 pub(crate) fn show(
     rt: &impl Print,
     title: &str,
     text: &[u8],
     rows: &mut [Row],
 ) -> std::io::Result<()> {
-    let result = read(text, rows);
-    let Facts {
-        inputs,
-        outputs,
-        blanks,
-    } = facts_of(rows);
+    let result = read(text, rows).map_err(Refusal::from);
+    let inputs = input_count(rows);
+    let outputs = rows.iter().filter(|row| row.output).count();
+    let blanks = rows.iter().filter(|row| **row == Row::BLANK).count();
     match result {
         Ok(lines) => println!(rt;
             "{title}: lines {lines} inputs {inputs} outputs {outputs} blank {blanks}"
         ),
-        Err(fault) => {
-            let refusal = Refusal::from(fault);
-            let number = refusal.number;
-            let place = refusal.place;
-            let layer = refusal.layer.name();
-            println!(rt; "{title}: refused {number} at {place} in {layer} blank {blanks}")
-        }
+        Err(refusal) => println!(rt; "{title}: {refusal} blank {blanks}"),
     }
 }
 
