@@ -1,43 +1,13 @@
 -- Laws of the searches over the numbers below n.
-use Rattle.std.proofs.Common.{◌≡◌, ℕ, zero, suc, ◌+◌, ◌<◌, ◌≤◌, Bool, true, false, cond, count_by, ◌&&◌, ◌||◌, List, length, get_or, take, sym, refl, ap, ◌∙◌, subst, inl, inr, add-one, arith}
+use Rattle.std.proofs.Common.{◌≡◌, ℕ, zero, suc, ◌+◌, ◌<◌, ◌≤◌, Bool, true, false, cond, count_by, List, length, get_or, take, sym, refl, ap, ◌∙◌, subst, inl, inr, add-one, arith}
 use Rattle.std.proofs.lemmas.List.{take_all}
 use Rattle.std.proofs.lemmas.List.Sums.{count_by_more_yes, count_by_more_no}
-use Rattle.std.proofs.lemmas.Bool.{and_parts, and_from, and_left, and_right, or_cases, or_left, or_right, both_ways, cases_lt, cond-true, cond-false, cases_Bool}
+use Rattle.std.proofs.lemmas.Bool.{cases_lt, cond-true, cond-false, cases_Bool}
 use Rattle.std.proofs.lemmas.Bool.Decides.{nat_tests}
-use Rattle.circuit.specs.Search.{each, some, first, count}
-
-pub each_more : (n : ℕ) (p : ℕ → Bool) → each (n + 1) p ≡ (each n p && p n)
-each_more n p = ap (λ m. each m p) (add-one n)
+use Rattle.circuit.specs.Search.{first, count}
 
 pub count_more : (n : ℕ) (p : ℕ → Bool) → count (n + 1) p ≡ cond (p n) 1 0 + count n p
 count_more n p = ap (λ m. count m p) (add-one n)
-
-pub some_more : (n : ℕ) (p : ℕ → Bool) → some (n + 1) p ≡ (some n p || p n)
-some_more n p = ap (λ m. some m p) (add-one n)
-
--- each number below passes
-pub each_at : (n : ℕ) (p : ℕ → Bool) → each n p ≡ true → (k : ℕ) → k < n → p k ≡ true
-each_at zero p e k h = absurd (omega arith)
-each_at (suc n) p e k h =
-    let both = and_parts (each n p) (p n) e in
-    elim (cases_lt k n) [ inl l ↦ each_at n p both.0 k l | inr g ↦ let same : n ≡ k = omega arith in subst (λ m. p m ≡ true) same both.1 ]
-
-pub each_from : (n : ℕ) (p : ℕ → Bool) → ((k : ℕ) → k < n → p k ≡ true) → each n p ≡ true
-each_from zero p f = refl
-each_from (suc n) p f = and_from _ _ (each_from n p (λ k h. f k (omega arith))) (f n (omega arith))
-
--- one that fails
-pub each_fails : (n : ℕ) (p : ℕ → Bool) (k : ℕ) → k < n → p k ≡ false → each n p ≡ false
-each_fails zero p k h e = absurd (omega arith)
-each_fails (suc n) p k h e =
-    elim (cases_lt k n) [
-      | inl l ↦ and_left _ _ (each_fails n p k l e)
-      | inr g ↦ let same : k ≡ n = omega arith in and_right _ _ (subst (λ m. p m ≡ false) same e)
-    ]
-
-pub each_same : (n : ℕ) (p q : ℕ → Bool) → ((k : ℕ) → k < n → p k ≡ q k) → each n p ≡ each n q
-each_same zero p q f = refl
-each_same (suc n) p q f = let a = each_same n p q (λ k h. f k (omega arith)) in let b = f n (omega arith) in cc
 
 pub count_same : (n : ℕ) (p q : ℕ → Bool) → ((k : ℕ) → k < n → p k ≡ q k) → count n p ≡ count n q
 count_same zero p q f = refl
@@ -89,34 +59,6 @@ first_before (suc n) p k h =
                 ]
           ]
     ]
-
-pub count_mono : (m n : ℕ) (p : ℕ → Bool) → m ≤ n → count m p ≤ count n p
-count_mono m zero p h = let z : m ≡ 0 = omega arith in rw z (omega arith)
-count_mono m (suc n) p h =
-    elim (cases_lt m (suc n)) [
-      | inl l ↦ omega (arith, count_mono m n p (omega arith))
-      | inr g ↦ let same : m ≡ suc n = omega arith in rw same (omega arith)
-    ]
-
-pub some_at : (n : ℕ) (p : ℕ → Bool) → some n p ≡ true → (k : ℕ) × (k < n) × (p k ≡ true)
-some_at zero p e = absurd (both_ways false refl e)
-some_at (suc n) p e =
-    elim (or_cases (some n p) (p n) e) [
-      | inl s ↦ let below = some_at n p s in (below.0, omega (arith, below.1), below.2)
-      | inr here ↦ (n, omega arith, here)
-    ]
-
-pub some_from : (n : ℕ) (p : ℕ → Bool) (k : ℕ) → k < n → p k ≡ true → some n p ≡ true
-some_from zero p k h e = absurd (omega arith)
-some_from (suc n) p k h e =
-    elim (cases_lt k n) [
-      | inl l ↦ or_left _ _ (some_from n p k l e)
-      | inr g ↦ let same : k ≡ n = omega arith in or_right _ _ (subst (λ m. p m ≡ true) same e)
-    ]
-
-pub some_same : (n : ℕ) (p q : ℕ → Bool) → ((k : ℕ) → k < n → p k ≡ q k) → some n p ≡ some n q
-some_same zero p q f = refl
-some_same (suc n) p q f = let a = some_same n p q (λ k h. f k (omega arith)) in let b = f n (omega arith) in cc
 
 -- a count in two stretches
 pub count_split : (m n : ℕ) (p : ℕ → Bool) → count (m + n) p ≡ count m p + count n (λ k. p (m + k))

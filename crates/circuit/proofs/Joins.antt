@@ -4,10 +4,8 @@ use Rattle.std.specs.List.{list_any}
 use Rattle.std.proofs.lemmas.List.{get_or-map, drop_more, take_rest}
 use Rattle.level.specs.declared.level.Level.{Level}
 use Rattle.level.specs.declared.level.Level.TheVariants.{Zero, One, X}
-use Rattle.level.specs.Tables.{not3, and3, or3, xor3}
-use Rattle.circuit.specs.declared.kind.Kind.{Kind}
-use Rattle.circuit.specs.declared.kind.Kind.TheVariants.{Input, And, Nand, Or, Nor, Xor, Xnor, Not, Buff}
-use Rattle.circuit.specs.Gates.{and_of, or_of, xor_of, joined, gate_level, inverts, odd_ones, is_x}
+use Rattle.level.specs.Tables.{and3, or3, xor3}
+use Rattle.circuit.specs.Gates.{and_of, or_of, xor_of, odd_ones, is_x}
 use Rattle.circuit.specs.Levels.{pin_level}
 use Rattle.circuit.specs.Rows.{Below}
 
@@ -58,18 +56,6 @@ fold_xor Zero [] = refl
 fold_xor One [] = refl
 fold_xor X [] = refl
 fold_xor a (b ∷ ls) = fold_xor (xor3 a b) ls ∙ sym (xor_joins a b ls)
-
--- and inverted at the end
-pub gate_joined : (k : Kind) (ls : List Level) → gate_level k ls ≡ cond (inverts k) (not3 (joined k ls)) (joined k ls)
-gate_joined And ls = refl
-gate_joined Nand ls = refl
-gate_joined Or ls = refl
-gate_joined Nor ls = refl
-gate_joined Xor ls = refl
-gate_joined Xnor ls = refl
-gate_joined Not ls = refl
-gate_joined Buff ls = refl
-gate_joined Input ls = refl
 
 -- a cell that was read
 cell_level : {V : Type 0} (f : V → Level) (cells : List V) (p : ℕ) (x : V) → p < length cells → x ≡ get_or cells p x → f x ≡ pin_level (map f cells) p

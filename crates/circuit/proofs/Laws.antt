@@ -1,49 +1,17 @@
 -- What the lawfulness of rows comes to at one row.
-use Rattle.std.proofs.Common.{◌≡◌, ℕ, ◌+◌, ◌<◌, ◌≤◌, Bool, true, false, cond, ltb, leb, List, [], length, get_or, drop, take, inl, inr, Some, sym, refl, ap, ◌∙◌, subst, arith}
+use Rattle.std.proofs.Common.{◌≡◌, ℕ, ◌+◌, ◌<◌, ◌≤◌, Bool, true, cond, ltb, leb, List, length, get_or, drop, inl, inr, sym, ap, ◌∙◌, subst, arith}
 use Rattle.std.specs.List.{enumerate_from}
 use Rattle.std.proofs.lemmas.List.FromFn.{length-enumerate_from, get_or-enumerate_from}
 use Rattle.std.proofs.lemmas.List.Sums.{AllPass-from_list_all, count_by_more_yes, count_by_more_no, sum_by-take-le}
-use Rattle.std.proofs.lemmas.List.{drop-drop, length-take}
-use Rattle.std.proofs.lemmas.Bool.{and_parts, cases_Bool, cond-true, cond-false, ltb-true, leb-true, eqb-true, both_ways}
-use Rattle.circuit.specs.declared.kind.Kind.{Kind}
-use Rattle.circuit.specs.declared.kind.Kind.TheVariants.{Input, And, Nand, Or, Nor, Xor, Xnor, Not, Buff}
+use Rattle.std.proofs.lemmas.List.{drop-drop}
+use Rattle.std.proofs.lemmas.Bool.{and_parts, cases_Bool, cond-true, cond-false, ltb-true, leb-true}
 use Rattle.circuit.specs.declared.row.Row.{Row}
-use Rattle.circuit.specs.Kinds.{takes, is_input, is_gate}
+use Rattle.circuit.specs.Kinds.{is_input}
 use Rattle.circuit.specs.Rows.{no_row, row_at, pins_of, counted, row_lawful, lawful, Below, inputs, inputs_before}
 
 -- the pins of a lawful row are below it
 pub row_below : (i : ℕ) (r : Row) → row_lawful i r ≡ true → Below i (pins_of r)
 row_below i r e j d h = ltb-true _ _ (AllPass-from_list_all (λ p. ltb p i) (pins_of r) (and_parts (counted r.kind r.count) _ e).1 j d h)
-
--- a lawful gate has a pin
-counts_some : (k : Kind) (c : ℕ) → takes k c ≡ true → is_input (Some k) ≡ false → 0 < c
-counts_some Input c e n = absurd (both_ways true n refl)
-counts_some And c e n = omega (arith, leb-true 2 c (and_parts (leb 2 c) _ e).0)
-counts_some Nand c e n = omega (arith, leb-true 2 c (and_parts (leb 2 c) _ e).0)
-counts_some Or c e n = omega (arith, leb-true 2 c (and_parts (leb 2 c) _ e).0)
-counts_some Nor c e n = omega (arith, leb-true 2 c (and_parts (leb 2 c) _ e).0)
-counts_some Xor c e n = omega (arith, leb-true 2 c (and_parts (leb 2 c) _ e).0)
-counts_some Xnor c e n = omega (arith, leb-true 2 c (and_parts (leb 2 c) _ e).0)
-counts_some Not c e n = omega (arith, eqb-true c 1 e)
-counts_some Buff c e n = omega (arith, eqb-true c 1 e)
-
-gates : (k : Kind) → is_input (Some k) ≡ false → is_gate (Some k) ≡ true
-gates Input n = absurd (both_ways true n refl)
-gates And n = refl
-gates Nand n = refl
-gates Or n = refl
-gates Nor n = refl
-gates Xor n = refl
-gates Xnor n = refl
-gates Not n = refl
-gates Buff n = refl
-
-pub gate_some : (i : ℕ) (r : Row) (k : Kind) → r.kind ≡ Some k → is_input r.kind ≡ false → length r.pins ≡ 8 → row_lawful i r ≡ true → 0 < length (pins_of r)
-gate_some i r k e n eight l =
-    let no : is_input (Some k) ≡ false = subst (λ o. is_input o ≡ false) e n in
-    let on : is_gate r.kind ≡ true = subst (λ o. is_gate o ≡ true) (sym e) (gates k no) in
-    let c : 0 < r.count = counts_some k r.count (subst (λ o. counted o r.count ≡ true) e (and_parts (counted r.kind r.count) _ l).0) no in
-    subst (λ b. 0 < length (cond b (take r.count r.pins) [])) (sym on) (simp length-take (omega arith))
 
 module _ (rows : List Row) where
   -- a row and its place

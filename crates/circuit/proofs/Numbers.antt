@@ -1,11 +1,10 @@
 -- Bridges and their numbers undo each other.
 use Rattle.std.proofs.Common.{◌≡◌, ℕ, zero, suc, ◌+◌, ◌-◌, ◌*◌, ◌/◌, ◌<◌, ◌≤◌, true, false, ◌&&◌, ltb, leb, Some, None, Ok, Err, sym, refl, ap, ◌∙◌, subst, inl, inr, suc-mul, mul-le-mul, mul-le-mul_left, zero-mul, mul-suc, add-one, arith}
-use Rattle.std.proofs.lemmas.Bool.{lt-ltb, le-ltb, le-leb, ltb-true, ltb-false, leb-true, and_from, and_parts, cases_Bool, cond-true, cond-false}
+use Rattle.std.proofs.lemmas.Bool.{lt-ltb, le-ltb, le-leb, ltb-true, leb-true, and_from, and_parts, cases_Bool, cond-true, cond-false}
 use Rattle.std.proofs.lemmas.Bool.Decides.{nat_tests}
 use Rattle.circuit.specs.Bridges.{pairs, number, low, high, bridge_of, bridge_outcome, number_of, Numbered}
 use Rattle.std.specs.Option.{ok_or}
 use Rattle.circuit.specs.declared.bridge.Bridge.{Bridge}
-use Rattle.circuit.specs.declared.refusal.CircuitFault.{CircuitFault}
 use Rattle.circuit.specs.declared.refusal.CircuitFault.TheVariants.{NoBridge}
 
 -- the number by recursion, as the two lines are found from it
@@ -128,19 +127,6 @@ bridge_found n β b e =
           absurd (omega arith)
     ]
 
-pub bridge_missing : (n β : ℕ) (f : CircuitFault) → Err f ≡ bridge_outcome n β → (pairs n ≤ β) × (f ≡ NoBridge β)
-bridge_missing n β f e =
-    elim (cases_Bool (ltb β (pairs n))) [
-      | inl on ↦
-          let b : Bridge = record { low = low n β; high = high n β } in
-          let e' : Err f ≡ Ok b = e ∙ ap (λ o. ok_or o (NoBridge β)) (cond-true _ _ _ on) in
-          let z : ◌≡◌ {A = ℕ} 0 1 = cc in
-          absurd (omega arith)
-      | inr off ↦
-          let e' : Err f ≡ Err (NoBridge β) = e ∙ ap (λ o. ok_or o (NoBridge β)) (cond-false _ _ _ off) in
-          (ltb-false β (pairs n) off, cc)
-    ]
-
 pairs_up : (m k : ℕ) → pairs m ≤ pairs (m + k)
 pairs_up m zero = let z : m + 0 ≡ m = omega arith in omega (arith, ap pairs z)
 pairs_up m (suc k) = let s : m + suc k ≡ suc (m + k) = omega arith in omega (arith, ap pairs s, pairs_up m k)
@@ -183,9 +169,6 @@ row_bridge n i k h l =
     let s : Sought n β i k = subst (Sought n β i) r (sought_from n β i (omega arith) (omega arith)) in
     let found = sought_found n β i k s w e l in
     (found.1, found.2)
-
-pub begin_all : (n : ℕ) → begin n n ≡ pairs n
-begin_all n = let z : n - n ≡ 0 = omega arith in omega (arith, ap pairs z)
 
 pub begin_none : (n : ℕ) → begin n 0 ≡ 0
 begin_none n = let z : n - 0 ≡ n = omega arith in omega (arith, ap pairs z)

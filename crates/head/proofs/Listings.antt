@@ -1,5 +1,5 @@
 -- Laws of the rows of a sheet.
-use Rattle.std.proofs.Common.{◌≡◌, ℕ, ◌+◌, ◌-◌, ◌*◌, ◌<◌, ◌≤◌, Bool, true, false, cond, ◌&&◌, eqb, ltb, List, ◌++◌, length, get_or, take, drop, Some, None, Ok, Err, sym, refl, ap, ◌∙◌, subst, inl, inr, add-mul, one-mul, le-div_iff_mul-le, div-lt_iff_lt-mul, arith, length-drop, length-append, length-take-le, get_or-drop, get_or-take, ext_get_or}
+use Rattle.std.proofs.Common.{◌≡◌, ℕ, ◌+◌, ◌-◌, ◌*◌, ◌<◌, ◌≤◌, Bool, true, false, cond, ◌&&◌, eqb, ltb, List, ◌++◌, length, get_or, take, drop, Some, None, Ok, Err, sym, refl, ap, ◌∙◌, inl, inr, add-mul, one-mul, le-div_iff_mul-le, div-lt_iff_lt-mul, arith, length-drop, length-append, length-take-le, get_or-drop, get_or-take, ext_get_or}
 use Rattle.std.specs.Str.{bytes_eq}
 use Rattle.std.proofs.lemmas.List.{take-append-le, drop-drop}
 use Rattle.std.proofs.lemmas.Slice.Eq.{bytes_eq-Decides}
@@ -147,6 +147,3 @@ by_rows w rows =
       on_none = λ v long quiet. let is = listed_none w rows v (λ k h. silent_fails w rows v k h (quiet k)) in grind (arith, is);
       on_others = λ v other. grind arith;
     }
-
-pub by_rows_of : (w : ℕ) (rows : List ℕ) (u : ℕ) (held : List ℕ) → u ≡ w → held ≡ rows → ByRows w rows (sheet u held)
-by_rows_of w rows u held p q = subst (λ (n : ℕ). ByRows w rows (sheet n held)) (sym p) (subst (λ (l : List ℕ). ByRows w rows (sheet w l)) (sym q) (by_rows w rows))

@@ -73,6 +73,7 @@ fn straight() -> [u8; 256]
 
 impl<H: Head> PinMap<H> {
     // Begins with each byte at its own pin.
+    #[tactic(auto, using(crate::proofs::Pins::first_standing))]
     pub fn over(below: H) -> PinMap<H>
         ensures kept { result.below ≡ below }
         ensures straight { (k : ℕ) → k < 256 → slice_index result.map k ≡ k }

@@ -60,14 +60,13 @@ impl<'a> Sheet<'a> {
         ensures refuses { 256 < width → (result.width ≡ 0) × (result.rows.now ≡ []) }
         ensures answers { width ≤ 256 → ByRows width rows.now (⟦<Sheet<'a> as Head>⟧.meaning result) }
     {
-        if width <= 256 {
-            Sheet { width, rows }
-        } else {
-            Sheet {
+        if width > 256 {
+            return Sheet {
                 width: 0,
                 rows: &[],
-            }
+            };
         }
+        Sheet { width, rows }
     }
 }
 

@@ -1,19 +1,18 @@
 -- The laws of the lines of an accepted text.
-use Rattle.std.proofs.Common.{◌≡◌, ℕ, ◌<◌, true, List, [], ◌∷◌, ◌++◌, length, set, is_some, Some, None, Ok, Option, sym, refl, ap, ◌∙◌, inl, inr, arith, length-set}
+use Rattle.std.proofs.Common.{◌≡◌, ℕ, ◌<◌, true, List, [], ◌∷◌, ◌++◌, length, set, is_some, Some, None, Option, sym, refl, ap, ◌∙◌, inl, inr, arith, length-set}
 use Rattle.std.proofs.lemmas.List.{length_push}
 use Rattle.std.proofs.lemmas.Bool.{cases_lt, cases_Bool, cond-true, cond-false}
 use Rattle.circuit.specs.Kinds.{is_input}
-use Rattle.circuit.specs.Rows.{row_at, named, pins_of, counted, inputs, lawful, Below, Lawful}
+use Rattle.circuit.specs.Rows.{row_at, named, pins_of, counted, inputs, Below, Lawful}
 use Rattle.circuit.specs.declared.kind.Kind.{Kind}
 use Rattle.circuit.specs.declared.row.Row.{Row}
-use Rattle.circuit.proofs.Takes.{words_lawful}
 use Rattle.netlist.specs.Accepted.{Accepted, NameIn}
 use Rattle.netlist.specs.Names.{name_of}
 use Rattle.netlist.specs.Reading.{as_output, reading}
 use Rattle.netlist.proofs.Found.{line_none}
 use Rattle.netlist.proofs.Inputs.{inputs_push, inputs_mark}
 use Rattle.netlist.proofs.OneMore.{row_before, row_last, row_each, mark_each, name_kept}
-use Rattle.netlist.proofs.Grows.{Fresh, accepted_at, reading_keeps}
+use Rattle.netlist.proofs.Grows.{Fresh, reading_keeps}
 
 lawful_grow : (text : List ℕ) (rows : List Row) (row : Row) → length rows < 1024 → Fresh text rows row → Lawful rows → Lawful (rows ++ row ∷ [])
 lawful_grow text rows row h new l =
@@ -46,10 +45,6 @@ lawful_none = record { few_lines = omega arith; few_inputs = omega arith; pin_co
 pub reading_words : (text : List ℕ) (room : ℕ) → Accepted (reading text room) Lawful
 reading_words text room = reading_keeps text room Lawful (lawful_grow text) lawful_mark lawful_none
 
--- the lines of an accepted text make a circuit
-pub reading_lawful : (text : List ℕ) (room : ℕ) (rows : List Row) → reading text room ≡ Ok rows → lawful rows ≡ true
-reading_lawful text room rows e = words_lawful rows (accepted_at Lawful (reading text room) rows e (reading_words text room))
-
 pub counted_named : (k : Option Kind) (c : ℕ) → counted k c ≡ true → is_some k ≡ true
 counted_named None c e = e
 counted_named (Some k) c e = refl
@@ -57,10 +52,6 @@ counted_named (Some k) c e = refl
 -- a lawful row has a kind
 pub lawful_named : (rows : List Row) → Lawful rows → (i : ℕ) → i < length rows → named (row_at rows i) ≡ true
 lawful_named rows l i h = counted_named (row_at rows i).kind (row_at rows i).count (l.pin_counts i h)
-
--- each line of an accepted text is an input or a gate
-pub reading_named : (text : List ℕ) (room : ℕ) (rows : List Row) → reading text room ≡ Ok rows → (i : ℕ) → i < length rows → named (row_at rows i) ≡ true
-reading_named text room rows e = lawful_named rows (accepted_at Lawful (reading text room) rows e (reading_words text room))
 
 abbrev pub Unique : List ℕ → List Row → Type 0
 Unique text rows = (i j : ℕ) → i < j → j < length rows → name_of text (row_at rows i) ≡ name_of text (row_at rows j) → ⊥
