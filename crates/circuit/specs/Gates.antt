@@ -1,5 +1,5 @@
 -- What a gate reads from its pins' readings.
-use Rattle.std.specs.Prelude.{Bool, true, false, if◌then◌else◌, not, List, [], ◌∷◌}
+use Rattle.std.specs.Prelude.{◌≡◌, Bool, true, false, if◌then◌else◌, not, List, [], ◌∷◌}
 use Rattle.std.specs.List.{list_all, list_any}
 use Rattle.level.specs.declared.level.Level.{Level}
 use Rattle.level.specs.declared.level.Level.TheVariants.{Zero, One, X}
@@ -79,3 +79,7 @@ joined Xnor ls = xor_of ls
 joined Not ls = only ls
 joined Buff ls = only ls
 joined Input ls = only ls
+
+-- what is answered to two values reads as the table gives from what they read
+abbrev pub ReadsAs : {V : Type 0} → (V → Level) → (V → V → V → Type 0) → (Level → Level → Level) → Type 0
+ReadsAs {V} reads answers table = (a b c : V) → answers a b c → reads c ≡ table (reads a) (reads b)

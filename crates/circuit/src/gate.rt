@@ -1,5 +1,5 @@
 ghost use Rattle.std.specs.Prelude.{◌≡◌, ◌<◌, fold, map, length};
-ghost use Rattle.circuit.specs.Gates.{gate_level, inverts, joined};
+ghost use Rattle.circuit.specs.Gates.{gate_level, inverts, joined, ReadsAs};
 ghost use Rattle.circuit.specs.Levels.{pin_level};
 ghost use Rattle.circuit.specs.Rows.{Below};
 ghost use Rattle.level.specs.declared.level.Level.{Level};
@@ -17,7 +17,7 @@ fn is_inverting(kind: Kind) -> bool
 fn join<V: LineValue, F: Fn(V, V) -> V>(op: F, first: V, rest: &[u16], cells: &[V]) -> V
     requires callable { F.IsAlwaysCallable op }
     requires below { Below (length cells.now) rest.now }
-    ensures { (table : Level → Level → Level) → ((a b c : V) → F.post op a b c → V.reads c ≡ table (V.reads a) (V.reads b)) → V.reads result ≡ fold table (V.reads first) (map (pin_level (map V.reads cells.now)) rest.now) }
+    ensures { (table : Level → Level → Level) → ReadsAs V.reads (F.post op) table → V.reads result ≡ fold table (V.reads first) (map (pin_level (map V.reads cells.now)) rest.now) }
 {
     let mut all = first;
     for pin in rest {

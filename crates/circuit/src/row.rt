@@ -11,7 +11,8 @@ pub struct Span {
     pub len: u8,
 }
 
-// One line of the netlist. A blank row has no kind, and zeros.
+// One line of the netlist. A blank row has no kind, and zeros. Its pins stand in the row, with their
+// count, since rows are memory that the caller lends.
 #[derive(Clone, Copy, PartialEq, Eq, Debug)]
 pub struct Row {
     pub kind: Option<Kind>,

@@ -8,7 +8,8 @@ use crate::head::Head;
 use crate::reading::Reading;
 use std::array;
 
-// Crosses pins: byte i of a vector goes to the pin of the head below that entry i names.
+// Crosses pins: byte i of a vector goes to the pin of the head below that entry i names. There is no heap,
+// so the map has room for the widest head; the width below says how much of it counts.
 #[derive(Drop)]
 pub struct PinMap<H> {
     below: H,

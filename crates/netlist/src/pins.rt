@@ -3,7 +3,7 @@ ghost use Rattle.netlist.specs.Statements.{added, used_of};
 
 use circuit::row::Span;
 
-// The words of at most eight pins.
+// The words of at most eight pins, in place with their count: there is no heap, and states are `Copy`.
 #[derive(Clone, Copy)]
 pub struct Pins {
     pub count: u8,

@@ -29,7 +29,7 @@ fn read_statement(text: Text, at: usize) -> Result<Statement, TokenFault>
             ControlFlow::Break(statement) => return Ok(statement),
         }
     }
-    unreachable()
+    unreachable!()
 }
 
 // How many bytes stand before the first byte 10.
