@@ -31,8 +31,7 @@ impl fmt::Display for Layer {
     ghost output = { λ l. Some (layer_name l) };
 
     fn fmt<W: fmt::Write>(&self, f: &mut fmt::Formatter<W>) -> fmt::Result {
-        let name = self.name();
-        write!(f, "{name}")
+        f.write_str(self.name())
     }
 }
 
