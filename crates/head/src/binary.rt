@@ -1,5 +1,5 @@
-ghost use Rattle.head.specs.Meaning.{binary, binary_outcome};
-ghost use Rattle.std.specs.Prelude.{◌≡◌};
+ghost use Rattle.head.specs.Meaning.{binary, binary_outcome, measured, Lawful, Meaning};
+ghost use Rattle.std.specs.Prelude.{◌≡◌, IfErr, Err as Refused};
 
 use crate::fault::HeadFault;
 
@@ -12,7 +12,8 @@ pub fn is_binary(vector: &[u8]) -> bool
 
 // Refuses what a head of this width does not answer: a vector of another length, then one that is not binary.
 pub fn check_binary(vector: &[u8], width: usize, adaptors: u8) -> Result<(), HeadFault>
-    ensures { result ≡ binary_outcome width adaptors vector.now }
+    ensures outcome { result ≡ binary_outcome width adaptors vector.now }
+    ensures refuses { IfErr result (λ fault. (m : Meaning) → Lawful m → m.width ≡ width → m.adaptors ≡ adaptors → measured m vector.now ≡ Refused fault) }
 {
     if vector.len() != width {
         return Err(HeadFault::Width { adaptors });

@@ -9,7 +9,7 @@ use Rattle.head.proofs.planted.ask.Goals as goal
 
 pub returns-in_err-map_err : goal.returns-in_err-map_err
 returns-in_err-map_err g c =
-    let fit = binary_ok _ _ c.args.vector.now c.in_ok-check_binary.ensures in
+    let fit = binary_ok _ _ c.args.vector.now c.in_ok-check_binary.ensures.outcome in
     let taken : (x : Bool) → vector_outcome x (inputs c.args.circuit.now.rows.now) c.args.vector.now ≡ Ok tt = λ x. taken_any x _ _ (fit.0 ∙ c.inputs.ensures) fit.1 in
     grind (arith, common_steps, taken)
 

@@ -12,7 +12,7 @@ returns g c =
     let v = c.args.vector.now in
     let m = g.H.Head.meaning s.below in
     let n = c.width-width.result in
-    let fit = binary_ok _ _ v c.in_ok-check_binary.ensures in
+    let fit = binary_ok _ _ v c.in_ok-check_binary.ensures.outcome in
     let long : length v ≡ m.width = fit.0 ∙ c.width-width.ensures.value in
     let given : take n c.scatter-cells.result ≡ crossed m.width s.map v =
     cells_crossed m.width n s.map v c.scatter-cells.result c.width-width.ensures.value c.width-width.ensures.lawful.narrow c.scatter-cells.ensures in
