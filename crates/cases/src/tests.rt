@@ -3,7 +3,7 @@ use circuit::circuit::Circuit;
 use circuit::detection::is_detected;
 use circuit::kind::Kind;
 use circuit::refusal::CircuitFault;
-use circuit::row::{Row, Span};
+use circuit::row::Row;
 use circuit::vector::{EvaluationFault, VectorFault};
 use level::level::Level;
 use level::line_value::LineValue;
@@ -23,8 +23,7 @@ fn gate(kind: Kind, a: u16, b: u16) -> Row {
         kind: Some(kind),
         count: 2,
         pins: [a, b, 0, 0, 0, 0, 0, 0],
-        output: false,
-        name: Span { offset: 0, len: 0 },
+        ..Row::BLANK
     }
 }
 

@@ -1,16 +1,10 @@
 -- What the check of a vector comes to.
-use Rattle.std.proofs.Common.{◌≡◌, ℕ, ◌≤◌, Bool, true, not, List, length, is_ok, Ok, sym, ap, ◌∙◌, arith}
+use Rattle.std.proofs.Common.{◌≡◌, ℕ, Bool, true, not, List, length, is_ok, Ok, sym, ap, ◌∙◌, arith}
 use Rattle.std.specs.List.{position_or_len}
 use Rattle.std.proofs.lemmas.List.Sums.{fails_before_first, position_or_len_is, prefix_len-le-length}
 use Rattle.std.proofs.lemmas.Bool.{cond-true, cond-false, eq-eqb, le-ltb, not-false, not_from_true}
 use Rattle.std.proofs.lemmas.Bool.Decides.{nat_tests}
-use Rattle.circuit.specs.declared.row.Row.{Row}
-use Rattle.circuit.specs.Rows.{inputs}
-use Rattle.circuit.specs.Vectors.{fits, Fit, unless_bad, vector_outcome, as_evaluation, evaluation_outcome}
-
--- a vector that was taken has the length, and bytes that fit
-pub taken_long : (x : Bool) (m : ℕ) (v : List ℕ) → is_ok (vector_outcome x m v) ≡ true → length v ≡ m
-taken_long x m v e = grind (arith, nat_tests)
+use Rattle.circuit.specs.Vectors.{fits, Fit, unless_bad, vector_outcome}
 
 pub taken_fits : (x : Bool) (m : ℕ) (v : List ℕ) → is_ok (vector_outcome x m v) ≡ true → Fit x v
 taken_fits x m v e k d h =
@@ -28,6 +22,3 @@ takes_vector x m v long f =
 -- where the flag and the length were asked for
 pub taken_by : (x x' : Bool) (m m' : ℕ) (v : List ℕ) (u : Unit {0}) → x' ≡ x → m' ≡ m → Ok u ≡ vector_outcome x' m' v → vector_outcome x m v ≡ Ok tt
 taken_by x x' m m' v u p q e = ap (λ b. vector_outcome b m v) (sym p) ∙ ap (λ k. vector_outcome x' k v) (sym q) ∙ sym e
-
-pub evaluates : (x : Bool) (rows : List Row) (v : List ℕ) (cells : ℕ) → length rows ≤ cells → vector_outcome x (inputs rows) v ≡ Ok tt → evaluation_outcome x rows v cells ≡ Ok tt
-evaluates x rows v cells h e = cond-false _ _ _ (le-ltb cells (length rows) h) ∙ ap as_evaluation e

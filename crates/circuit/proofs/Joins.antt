@@ -1,5 +1,6 @@
 -- A gate takes in its pins one after another.
-use Rattle.std.proofs.Common.{◌≡◌, ℕ, ◌-◌, ◌<◌, Bool, true, false, cond, not, List, [], ◌∷◌, fold, map, length, get_or, take, drop, sym, refl, ap, ◌∙◌}
+use Rattle.std.proofs.Common.{◌≡◌, ℕ, ◌-◌, ◌<◌, cond, List, [], ◌∷◌, fold, map, length, get_or, take, drop, sym, refl, ap, ◌∙◌}
+use Rattle.std.proofs.Math.Bool.{not-not}
 use Rattle.std.specs.List.{list_any}
 use Rattle.std.proofs.lemmas.List.{get_or-map, drop_more, take_rest}
 use Rattle.level.specs.declared.level.Level.{Level}
@@ -9,7 +10,7 @@ use Rattle.circuit.specs.Gates.{and_of, or_of, xor_of, odd_ones, is_x}
 use Rattle.circuit.specs.Levels.{pin_level}
 use Rattle.circuit.specs.Rows.{Below}
 
-and_joins : (a b : Level) (ls : List Level) → and_of (a ∷ (b ∷ ls)) ≡ and_of (and3 a b ∷ ls)
+pub and_joins : (a b : Level) (ls : List Level) → and_of (a ∷ (b ∷ ls)) ≡ and_of (and3 a b ∷ ls)
 and_joins Zero b ls = refl
 and_joins One Zero ls = refl
 and_joins One One ls = refl
@@ -18,7 +19,7 @@ and_joins X Zero ls = refl
 and_joins X One ls = refl
 and_joins X X ls = refl
 
-or_joins : (a b : Level) (ls : List Level) → or_of (a ∷ (b ∷ ls)) ≡ or_of (or3 a b ∷ ls)
+pub or_joins : (a b : Level) (ls : List Level) → or_of (a ∷ (b ∷ ls)) ≡ or_of (or3 a b ∷ ls)
 or_joins One b ls = refl
 or_joins Zero Zero ls = refl
 or_joins Zero One ls = refl
@@ -27,35 +28,32 @@ or_joins X Zero ls = refl
 or_joins X One ls = refl
 or_joins X X ls = refl
 
-not_not : (b : Bool) → not (not b) ≡ b
-not_not true = refl
-not_not false = refl
-
-xor_joins : (a b : Level) (ls : List Level) → xor_of (a ∷ (b ∷ ls)) ≡ xor_of (xor3 a b ∷ ls)
+pub xor_joins : (a b : Level) (ls : List Level) → xor_of (a ∷ (b ∷ ls)) ≡ xor_of (xor3 a b ∷ ls)
 xor_joins Zero b ls = refl
 xor_joins One Zero ls = refl
-xor_joins One One ls = ap (λ t. cond (list_any is_x ls) X (cond t One Zero)) (not_not (odd_ones ls))
+xor_joins One One ls = ap (λ t. cond (list_any is_x ls) X (cond t One Zero)) (not-not (odd_ones ls))
 xor_joins One X ls = refl
 xor_joins X b ls = refl
 
 -- a gate's first reading, joined with the others one after another
-pub fold_and : (a : Level) (ls : List Level) → fold and3 a ls ≡ and_of (a ∷ ls)
-fold_and Zero [] = refl
-fold_and One [] = refl
-fold_and X [] = refl
-fold_and a (b ∷ ls) = fold_and (and3 a b) ls ∙ sym (and_joins a b ls)
+pub fold_joined : (table : Level → Level → Level) (of : List Level → Level) → ((a : Level) → of (a ∷ []) ≡ a) → ((a b : Level) (ls : List Level) → of (a ∷ (b ∷ ls)) ≡ of (table a b ∷ ls)) → (a : Level) (ls : List Level) → fold table a ls ≡ of (a ∷ ls)
+fold_joined table of one more a [] = sym (one a)
+fold_joined table of one more a (b ∷ ls) = fold_joined table of one more (table a b) ls ∙ sym (more a b ls)
 
-pub fold_or : (a : Level) (ls : List Level) → fold or3 a ls ≡ or_of (a ∷ ls)
-fold_or Zero [] = refl
-fold_or One [] = refl
-fold_or X [] = refl
-fold_or a (b ∷ ls) = fold_or (or3 a b) ls ∙ sym (or_joins a b ls)
+pub and_one : (a : Level) → and_of (a ∷ []) ≡ a
+and_one Zero = refl
+and_one One = refl
+and_one X = refl
 
-pub fold_xor : (a : Level) (ls : List Level) → fold xor3 a ls ≡ xor_of (a ∷ ls)
-fold_xor Zero [] = refl
-fold_xor One [] = refl
-fold_xor X [] = refl
-fold_xor a (b ∷ ls) = fold_xor (xor3 a b) ls ∙ sym (xor_joins a b ls)
+pub or_one : (a : Level) → or_of (a ∷ []) ≡ a
+or_one Zero = refl
+or_one One = refl
+or_one X = refl
+
+pub xor_one : (a : Level) → xor_of (a ∷ []) ≡ a
+xor_one Zero = refl
+xor_one One = refl
+xor_one X = refl
 
 -- a cell that was read
 cell_level : {V : Type 0} (f : V → Level) (cells : List V) (p : ℕ) (x : V) → p < length cells → x ≡ get_or cells p x → f x ≡ pin_level (map f cells) p

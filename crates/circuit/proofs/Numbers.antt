@@ -1,8 +1,8 @@
 -- Bridges and their numbers undo each other.
-use Rattle.std.proofs.Common.{◌≡◌, ℕ, zero, suc, ◌+◌, ◌-◌, ◌*◌, ◌/◌, ◌<◌, ◌≤◌, true, false, ◌&&◌, ltb, leb, Some, None, Ok, Err, sym, refl, ap, ◌∙◌, subst, inl, inr, suc-mul, mul-le-mul, mul-le-mul_left, zero-mul, mul-suc, add-one, arith}
-use Rattle.std.proofs.lemmas.Bool.{lt-ltb, le-ltb, le-leb, ltb-true, leb-true, and_from, and_parts, cases_Bool, cond-true, cond-false}
+use Rattle.std.proofs.Common.{◌≡◌, ℕ, zero, suc, ◌+◌, ◌-◌, ◌*◌, ◌<◌, ◌≤◌, true, false, ltb, Ok, Err, sym, refl, ap, ◌∙◌, subst, inl, inr, suc-mul, mul-le-mul, mul-le-mul_left, zero-mul, mul-suc, add-one, arith}
+use Rattle.std.proofs.lemmas.Bool.{lt-ltb, le-ltb, ltb-true, cases_Bool, cond-true, cond-false}
 use Rattle.std.proofs.lemmas.Bool.Decides.{nat_tests}
-use Rattle.circuit.specs.Bridges.{pairs, number, low, high, bridge_of, bridge_outcome, number_of, Numbered}
+use Rattle.circuit.specs.Bridges.{pairs, number, low, high, bridge_outcome, Numbered}
 use Rattle.std.specs.Option.{ok_or}
 use Rattle.circuit.specs.declared.bridge.Bridge.{Bridge}
 use Rattle.circuit.specs.declared.refusal.CircuitFault.TheVariants.{NoBridge}
@@ -69,11 +69,6 @@ Sought n β i rest =
     × (high n β ≡ i + high (n - i) rest)
 
 module _ (n β i rest : ℕ) (s : Sought n β i rest) where
-  pub sought_none : n ≤ i → bridge_of n β ≡ None
-  sought_none h =
-      let z : n - i ≡ 0 = omega arith in
-      cond-false _ _ _ (le-ltb β (pairs n) (omega (arith, s.0, ap pairs z)))
-
   module _ (w : ℕ) (e : n - i ≡ suc w) where
     pub sought_found : rest < w → (β < pairs n) × (low n β ≡ i) × (high n β ≡ i + 1 + rest)
     sought_found h =
@@ -83,11 +78,6 @@ module _ (n β i rest : ℕ) (s : Sought n β i rest) where
         let u : high (n - i) rest ≡ suc rest = ap (λ m. high m rest) e ∙ cond-true _ _ _ here in
         (omega (arith, s.0), omega (arith, s.1), omega (arith, s.2))
 
-    pub sought_here : rest < w → bridge_of n β ≡ Some (record { low = i; high = i + 1 + rest })
-    sought_here h =
-        let found = sought_found h in
-        cond-true _ _ _ (lt-ltb β (pairs n) found.0) ∙ ap (λ k. Some (record { low = k; high = high n β })) found.1 ∙ ap (λ k. Some (record { low = i; high = k })) found.2
-
     pub sought_more : w ≤ rest → Sought n β (i + 1) (rest - w)
     sought_more h =
         let past : ltb rest w ≡ false = le-ltb rest w h in
@@ -96,23 +86,6 @@ module _ (n β i rest : ℕ) (s : Sought n β i rest) where
         let l : low (n - i) rest ≡ suc (low w (rest - w)) = ap (λ m. low m rest) e ∙ cond-false _ _ _ past in
         let u : high (n - i) rest ≡ suc (high w (rest - w)) = ap (λ m. high m rest) e ∙ cond-false _ _ _ past in
         (omega (arith, s.0, ap pairs next), omega (arith, s.1, ap (λ m. low m (rest - w)) next), omega (arith, s.2, ap (λ m. high m (rest - w)) next))
-
--- what the number is computed from is there
-pub below_product : (n u : ℕ) → u < n → u * (u + 1) / 2 ≤ u * n
-below_product n u h = let above : u + 1 ≤ n = omega arith in omega (arith, mul-le-mul_left u above)
-
-pub number_some : (n u v : ℕ) → n ≤ 1024 → u < v → v < n → number_of n u v ≡ Some (number n u v)
-number_some n u v a b c = cond-true _ _ _ (and_from _ _ (le-leb n 1024 a) (and_from _ _ (lt-ltb u v b) (lt-ltb v n c)))
-
-pub number_none : (n u v : ℕ) → (n ≤ 1024 → u < v → v < n → ⊥) → number_of n u v ≡ None
-number_none n u v f =
-    elim (cases_Bool (leb n 1024 && (ltb u v && ltb v n))) [
-      | inl e ↦
-          let all = and_parts (leb n 1024) _ e in
-          let two = and_parts (ltb u v) _ all.1 in
-          absurd (f (leb-true n 1024 all.0) (ltb-true u v two.0) (ltb-true v n two.1))
-      | inr e ↦ cond-false _ _ _ e
-    ]
 
 -- a bridge that was found
 pub bridge_found : (n β : ℕ) (b : Bridge) → Ok b ≡ bridge_outcome n β → (β < pairs n) × (b.low ≡ low n β) × (b.high ≡ high n β)
@@ -169,9 +142,6 @@ row_bridge n i k h l =
     let s : Sought n β i k = subst (Sought n β i) r (sought_from n β i (omega arith) (omega arith)) in
     let found = sought_found n β i k s w e l in
     (found.1, found.2)
-
-pub begin_none : (n : ℕ) → begin n 0 ≡ 0
-begin_none n = let z : n - 0 ≡ n = omega arith in omega (arith, ap pairs z)
 
 pub pairs_few : (n : ℕ) → n ≤ 1024 → pairs n ≤ 523776
 pairs_few n h =

@@ -1,8 +1,6 @@
 -- Taking a circuit, in words.
-use Rattle.std.proofs.Common.{◌≡◌, ℕ, ◌+◌, ◌-◌, ◌<◌, ◌≤◌, Bool, true, not, ◌&&◌, ltb, List, [], drop, length, take, sym, refl, ap, subst, inl, inr, arith}
-use Rattle.std.specs.List.{enumerate_from, position, position_or_len}
-use Rattle.std.specs.Option.{unwrap_or}
-use Rattle.std.proofs.lemmas.Bool.Decides.{nat_tests}
+use Rattle.std.proofs.Common.{◌≡◌, ℕ, ◌+◌, ◌-◌, ◌<◌, ◌≤◌, true, not, ◌&&◌, ltb, List, [], drop, length, take, sym, refl, ap, subst, inl, inr, arith}
+use Rattle.std.specs.List.{enumerate_from}
 use Rattle.std.proofs.lemmas.List.{get_or-drop, length-drop, length-take-le}
 use Rattle.std.proofs.lemmas.List.Elements.{All-from_get_or}
 use Rattle.std.proofs.lemmas.List.FromFn.{length-enumerate_from}
@@ -11,10 +9,6 @@ use Rattle.std.proofs.lemmas.Bool.{and_parts, and_from, not-true, not-false, not
 use Rattle.circuit.specs.declared.row.Row.{Row}
 use Rattle.circuit.specs.Rows.{no_row, row_at, pins_of, named, counted, row_lawful, all_below, inputs, lawful, line_count, lines, rest_blank, taken, Lawful, Lines, BlankAfter}
 use Rattle.circuit.proofs.Laws.{entry, lawful_lines, lawful_inputs, lawful_row, row_below}
-
--- the place of the first that passes, or the length
-pub unwrap_position : {X : Type 0} (p : X → Bool) (xs : List X) → unwrap_or (position p xs) (length xs) ≡ position_or_len p xs
-unwrap_position p xs = grind (arith, nat_tests, prefix_len-le-length (λ x. not (p x)) xs)
 
 -- the test of the rows and the words say the same
 pub lawful_words : (rows : List Row) → lawful rows ≡ true → Lawful rows

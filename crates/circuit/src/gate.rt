@@ -21,7 +21,7 @@ fn join<V: LineValue, F: Fn(V, V) -> V>(op: F, first: V, rest: &[u16], cells: &[
 {
     let mut all = first;
     for pin in rest {
-        all = op(all, cells[*pin as usize]);
+        all = op(all, cells[usize::from(*pin)]);
     }
     all
 }

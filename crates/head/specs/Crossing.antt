@@ -1,5 +1,5 @@
 -- What crossing the pins means, and which pin maps are taken.
-use Rattle.std.specs.Prelude.{◌≡◌, ℕ, ◌<◌, ◌≤◌, Bool, MatchBool, if◌then◌else◌, ◌&&◌, ◌||◌, ◌⊎◌, List, [], ◌∷◌, length, take, drop, replicate, Ok, Err, Result, ◌==◌, ◌≢◌, nat_le, nat_lt, slice_index, slice_set}
+use Rattle.std.specs.Prelude.{◌≡◌, ℕ, ◌<◌, ◌≤◌, Bool, MatchBool, if◌then◌else◌, ◌&&◌, ◌||◌, ◌⊎◌, List, [], ◌∷◌, length, take, drop, replicate, Some, None, Ok, Err, Option, Result, ◌==◌, ◌≢◌, nat_le, nat_lt, slice_index, slice_set}
 use Rattle.std.specs.List.{list_any}
 use Rattle.circuit.specs.Search.{first}
 use Rattle.head.specs.declared.fault.HeadFault.{HeadFault}
@@ -33,6 +33,10 @@ bad w es i = nat_le w (slice_index es i) || repeated es i
 -- the first such entry, or the length
 abbrev pub bad_entry : ℕ → List ℕ → ℕ
 bad_entry w es = first (length es) (bad w es)
+
+-- the same, if there is one
+abbrev pub bad_place : ℕ → List ℕ → Option ℕ
+bad_place w es = if nat_lt (bad_entry w es) (length es) then Some (bad_entry w es) else None
 
 -- what setting gives: the first bad entry, else the length if it is not the width
 abbrev pub setting : ℕ → List ℕ → Result (Unit {0}) HeadFault

@@ -1,5 +1,5 @@
-ghost use Rattle.std.specs.Prelude.{◌≡◌, ℕ, ◌<◌, ◌≤◌, List, length, take, drop, replicate, if◌then◌else◌, nat_lt, slice_index};
-ghost use Rattle.head.specs.Crossing.{scattered, crossing, bad, bad_entry, setting, Judged, Stored, raised_result, AskedCrossed};
+ghost use Rattle.std.specs.Prelude.{◌≡◌, ℕ, ◌<◌, ◌≤◌, List, length, take, drop, replicate, slice_index};
+ghost use Rattle.head.specs.Crossing.{scattered, crossing, bad, bad_place, setting, Judged, Stored, raised_result, AskedCrossed};
 ghost use Rattle.head.specs.Meaning.{Lawful, measured};
 
 use crate::binary::check_binary;
@@ -36,7 +36,7 @@ fn is_bad(map: &[u16], at: usize, width: usize) -> bool
 }
 
 fn first_bad(map: &[u16], width: usize) -> Option<usize>
-    ensures { result ≡ (if nat_lt (bad_entry width map.now) (length map.now) then Some (bad_entry width map.now) else None) }
+    ensures { result ≡ bad_place width map.now }
 {
     (0..map.len()).find(|at| is_bad(map, *at, width))
 }

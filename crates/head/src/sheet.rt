@@ -45,12 +45,9 @@ fn find(rows: &[u8], width: usize, vector: &[u8]) -> Result<Reading, HeadFault>
     requires { width ≤ 256 }
     ensures { result ≡ answered 0 (listed width rows.now vector.now) }
 {
-    for row in rows.chunks_exact(width + 1) {
-        if let Some(reading) = answer(row, vector) {
-            return Ok(reading);
-        }
-    }
-    Err(OPEN)
+    rows.chunks_exact(width + 1)
+        .find_map(|row| answer(row, vector))
+        .ok_or(OPEN)
 }
 
 impl<'a> Sheet<'a> {

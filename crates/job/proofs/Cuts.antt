@@ -1,8 +1,8 @@
 -- The search for the `%` line.
-use Rattle.std.proofs.Common.{◌≡◌, ℕ, ◌+◌, ◌-◌, ◌<◌, ◌≤◌, min, Bool, true, false, not, ◌&&◌, eqb, List, [], ◌∷◌, ◌++◌, length, get_or, take, drop, sym, refl, ap, ◌∙◌, subst, inl, inr, arith}
+use Rattle.std.proofs.Common.{◌≡◌, ℕ, ◌+◌, ◌-◌, ◌<◌, ◌≤◌, Bool, true, false, not, ◌&&◌, eqb, List, [], ◌∷◌, ◌++◌, length, get_or, take, drop, sym, refl, ap, ◌∙◌, subst, inl, inr, arith}
 use Rattle.std.specs.Bool.{MatchBool}
 use Rattle.std.specs.List.{position_or_len, IsFirstMatchOrLen}
-use Rattle.std.proofs.lemmas.List.{drop-drop, drop_all, get_or-drop, length-append, length-drop, length-take-le, take_all, take_at}
+use Rattle.std.proofs.lemmas.List.{drop-drop, get_or-drop, length-append, length-drop, length-take-le, take_all, take_at}
 use Rattle.std.proofs.Math.Seq.{drop-append-add}
 use Rattle.std.proofs.lemmas.List.Sums.{fails_before_first, passes_at_first, position_or_len_is, prefix_len-le-length}
 use Rattle.std.proofs.lemmas.Bool.{and_left, and_right, and_from, or_from, or_right, ne_eqb, both_ways, cases_lt, cases_eq}
@@ -106,11 +106,3 @@ part job s rest line after done (within, at) parts first =
       more = left job s within line after front done here;
       last = ended job s within line after front done here;
     }
-
--- the part from a place on, where the place may be past the end
-pub drop_min : (xs : List ℕ) (n : ℕ) → drop (min (length xs) n) xs ≡ drop n xs
-drop_min xs n =
-    elim (cases_lt n (length xs)) [
-      | inl l ↦ let e : min (length xs) n ≡ n = omega arith in ap (λ k. drop k xs) e
-      | inr g ↦ drop_all (min (length xs) n) xs (omega arith) ∙ sym (drop_all n xs g)
-    ]

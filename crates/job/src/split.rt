@@ -53,7 +53,7 @@ pub fn split(job: &[u8]) -> Result<Job<'_>, JobFault>
         if is_percent_line(line) {
             return Ok(Job {
                 netlist: &job[..start],
-                vectors: &job[job.len().min(end + 1)..],
+                vectors: &job[(end + 1).min(job.len())..],
             });
         }
         start = end + 1;

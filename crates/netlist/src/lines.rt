@@ -89,15 +89,13 @@ impl Lines<'_> {
             result ≡ gates text self.entry.rows.now kind gate close }
     {
         let Gate { line, kind, pins } = gate;
-        let Some(named) = kind_named(part(self.text.bytes, kind)) else {
-            return Err(NetlistFault::UnknownKeyword {
-                place: kind.offset as usize,
-            });
-        };
-        let pins = match pins {
-            Some(pins) if named.takes(pins.count as usize) => pins,
-            _ => return Err(NetlistFault::PinCount { place: close }),
-        };
+        let place = kind.offset as usize;
+        let named = kind_named(part(self.text.bytes, kind)).ok_or(NetlistFault::UnknownKeyword {
+            place,
+        })?;
+        let pins = pins
+            .filter(|pins| named.takes(usize::from(pins.count)))
+            .ok_or(NetlistFault::PinCount { place: close })?;
         if self.has(line) {
             return Err(NetlistFault::Redefined {
                 place: line.offset as usize,
@@ -120,7 +118,7 @@ impl Lines<'_> {
         match statement {
             Statement::Empty => Ok(None),
             Statement::Declaration(declaration) => self.declared(declaration),
-            Statement::Gate { gate, close } => Ok(Some(self.driven(gate, close)?)),
+            Statement::Gate { gate, close } => self.driven(gate, close).map(Some),
         }
     }
 }

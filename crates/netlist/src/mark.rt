@@ -31,11 +31,9 @@ fn mark(text: Text, rows: &mut [Row], statement: Statement) -> Result<(), Netlis
     let Some(word) = marked_word(text, statement) else {
         return Ok(());
     };
-    let Some(line) = find(text, rows, word) else {
-        return Err(NetlistFault::UndefinedOutput {
-            place: word.offset as usize,
-        });
-    };
+    let line = find(text, rows, word).ok_or(NetlistFault::UndefinedOutput {
+        place: word.offset as usize,
+    })?;
     rows[line].output = true;
     Ok(())
 }

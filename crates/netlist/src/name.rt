@@ -8,7 +8,7 @@ pub(crate) fn part<'a>(text: &'a [u8], span: Span) -> &'a [u8]
     ensures { result.now ≡ bytes_of text.now span }
 {
     let start = span.offset as usize;
-    let end = start + span.len as usize;
+    let end = start + usize::from(span.len);
     text.get(start..end).unwrap_or(&[])
 }
 

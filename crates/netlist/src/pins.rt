@@ -24,7 +24,7 @@ impl Pins {
             return None;
         }
         let mut spans = self.spans;
-        spans[self.count as usize] = pin;
+        spans[usize::from(self.count)] = pin;
         Some(Pins {
             count: self.count + 1,
             spans,
@@ -35,6 +35,6 @@ impl Pins {
         ensures value { result.now ≡ used_of self.now }
         ensures few { length result.now ≤ 8 }
     {
-        &self.spans[..(self.count as usize).min(8)]
+        &self.spans[..usize::from(self.count).min(8)]
     }
 }

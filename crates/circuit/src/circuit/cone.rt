@@ -11,7 +11,7 @@ fn is_any_marked(pins: &[u16], marks: &[bool]) -> bool
     requires { Below (length marks.now) pins.now }
     ensures { result ≡ list_any (λ p. slice_index_or marks.now p false) pins.now }
 {
-    pins.iter().any(|pin| marks[*pin as usize])
+    pins.iter().any(|pin| marks[usize::from(*pin)])
 }
 
 // Whether the line after those marked is the source, or has a marked pin.

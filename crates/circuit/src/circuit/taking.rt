@@ -9,7 +9,7 @@ use crate::row::{Row, input_count};
 fn is_below(pin: u16, line: usize) -> bool
     ensures { result ≡ nat_lt pin line }
 {
-    (pin as usize) < line
+    usize::from(pin) < line
 }
 
 fn are_below(pins: &[u16], line: usize) -> bool
@@ -23,7 +23,7 @@ fn is_lawful(row: &Row, line: usize) -> bool
 {
     match row.kind {
         None => false,
-        Some(kind) => kind.takes(row.count as usize) && are_below(row.used_pins(), line),
+        Some(kind) => kind.takes(usize::from(row.count)) && are_below(row.used_pins(), line),
     }
 }
 
@@ -35,17 +35,11 @@ fn are_lawful(rows: &[Row]) -> bool
         .all(|(line, row)| is_lawful(row, line))
 }
 
-fn first_blank(rows: &[Row]) -> Option<usize>
-    ensures { result ≡ position (λ r. not (named r)) rows.now }
-{
-    rows.iter().position(|row| row.is_blank())
-}
-
 // How many rows stand before the first blank one.
 fn line_count(rows: &[Row]) -> usize
     ensures { result ≡ line_count rows.now }
 {
-    first_blank(rows).unwrap_or(rows.len())
+    rows.iter().take_while(|row| !row.is_blank()).count()
 }
 
 fn are_blank(rows: &[Row]) -> bool

@@ -1,27 +1,9 @@
 use Rattle.std.proofs.Common.{◌≡◌, ◌+◌, true, false, length, refl, ap, ◌∙◌, sym, subst, take, drop, arith, rules}
-use Rattle.std.proofs.lemmas.List.{length-take-le, take_rest}
+use Rattle.std.proofs.lemmas.List.{drop_min, take_rest}
 use Rattle.std.proofs.lemmas.List.Sorted.{answers_always}
 use Rattle.job.specs.Parts.{line_at, line_end, percent_line, percent_at}
-use Rattle.job.proofs.Cuts.{Passed, ends, drop_min, end_within, found, missing, part, passes, percent_some}
+use Rattle.job.proofs.Cuts.{Passed, ends, end_within, found, missing, part, passes, percent_some}
 use Rattle.job.proofs.split.split.Goals as goal
-
-pub overflow_add-end : goal.overflow_add-end
-overflow_add-end c =
-    let split = c.in-Some.ensures.steps in
-    let line = part c.args.job.now c.loop-line.start _ c.in-Some.line.now c.next.new.self.rest.now c.next.new.self.done (c.loop-line.invariant.1 split.0) split.1 (split.2 ends (answers_always _ _ _ (λ f b r g k. search rules))).1 in
-    omega (arith, line.within, end_within c.args.job.now c.loop-line.start line.within, ap length line.is)
-
-pub slice_bounds-result-end : goal.slice_bounds-result-end
-slice_bounds-result-end c =
-    let split = c.in-Some.ensures.steps in
-    let line = part c.args.job.now c.loop-line.start _ c.in-Some.line.now c.next.new.self.rest.now c.next.new.self.done (c.loop-line.invariant.1 split.0) split.1 (split.2 ends (answers_always _ _ _ (λ f b r g k. search rules))).1 in
-    sym (length-take-le c.loop-line.start c.args.job.now line.within)
-
-pub overflow_add-end-then-is_percent_line : goal.overflow_add-end-then-is_percent_line
-overflow_add-end-then-is_percent_line c =
-    let split = c.in-Some.ensures.steps in
-    let line = part c.args.job.now c.loop-line.start _ c.in-Some.line.now c.next.new.self.rest.now c.next.new.self.done (c.loop-line.invariant.1 split.0) split.1 (split.2 ends (answers_always _ _ _ (λ f b r g k. search rules))).1 in
-    omega (arith, line.within, end_within c.args.job.now c.loop-line.start line.within, ap length line.is)
 
 pub returns-then-is_percent_line : goal.returns-then-is_percent_line
 returns-then-is_percent_line c =
@@ -36,14 +18,8 @@ returns-then-is_percent_line c =
       c.if-job-gt-MAX_JOB.false,
       omega (arith, at, some, percent_some (line_at job s) here),
       ap (λ k. take k job) (sym at),
-      take_rest job c.min.result ∙ ap (λ k. drop k job) c.min.ensures ∙ drop_min job _ ∙ ap (λ k. drop (k + 1) job) end,
+      take_rest job c.min.result ∙ ap (λ k. drop k job) c.min.ensures ∙ drop_min _ job ∙ ap (λ k. drop (k + 1) job) end,
     )
-
-pub overflow_add-start : goal.overflow_add-start
-overflow_add-start c =
-    let split = c.in-Some.ensures.steps in
-    let line = part c.args.job.now c.loop-line.start _ c.in-Some.line.now c.next.new.self.rest.now c.next.new.self.done (c.loop-line.invariant.1 split.0) split.1 (split.2 ends (answers_always _ _ _ (λ f b r g k. search rules))).1 in
-    omega (arith, line.within, end_within c.args.job.now c.loop-line.start line.within, ap length line.is)
 
 pub loop-line-preserved : goal.loop-line-preserved
 loop-line-preserved c =

@@ -1,16 +1,11 @@
-use Rattle.std.proofs.Common.{◌≡◌, ◌+◌, length, sym, take, ap, arith}
+use Rattle.std.proofs.Common.{◌≡◌, ◌+◌, length, take, arith}
 use Rattle.circuit.specs.Feedback.{cone, feedback_bridge}
 use Rattle.circuit.specs.Search.{count}
 use Rattle.circuit.proofs.Cones.{cone_count}
 use Rattle.circuit.proofs.Finds.{count_le}
 use Rattle.circuit.proofs.Laws.{lawful_lines}
-use Rattle.circuit.proofs.Numbers.{begin, begin_none, pairs_few}
+use Rattle.circuit.proofs.Numbers.{begin, pairs_few}
 use Rattle.circuit.proofs.circuit.Circuit.feedback_bridges.Goals as goal
-
-pub loop-low-init : goal.loop-low-init
-loop-low-init c =
-    let rows = c.args.self.now.rows.now in
-    sym (ap (λ m. count m (feedback_bridge rows)) (begin_none (length rows)))
 
 pub overflow_add-total : goal.overflow_add-total
 overflow_add-total c =
