@@ -1,0 +1,5 @@
+pub mod Classes
+pub mod Found
+pub mod Leads
+pub mod Partitions
+pub mod Refines

@@ -1,0 +1,4 @@
+pub mod History
+pub mod Leading
+pub mod Parts
+pub mod Refining
