@@ -7,7 +7,7 @@ ghost use Rattle.session.specs.History.{Entry};
 ghost use Rattle.session.specs.Parts.{parts, same_level, Parted};
 ghost use Rattle.session.specs.Refining.{named, name_in, refined};
 ghost use Rattle.std.specs.Option.{unwrap_or};
-ghost use Rattle.std.specs.Prelude.{◌≡◌, ℕ, ◌<◌, ◌≤◌, All, List, [], ◌∷◌, Option, Some, if◌then◌else◌, ◌&&◌, ◌==◌, length, map, take, drop, replicate};
+ghost use Rattle.std.specs.Prelude.{◌≡◌, ℕ, ◌<◌, ◌≤◌, List, [], ◌∷◌, Option, Some, if◌then◌else◌, ◌&&◌, ◌==◌, length, map, take, drop, replicate};
 
 use circuit::limit::MAX_LINES;
 use level::level::Level;

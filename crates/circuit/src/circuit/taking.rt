@@ -1,5 +1,5 @@
 ghost use Rattle.circuit.specs.Rows.{line_count, lines, named, row_lawful, all_below, each_lawful, taken, Lawful, Lines, BlankAfter};
-ghost use Rattle.std.specs.List.{list_all, position};
+ghost use Rattle.std.specs.List.{list_all};
 ghost use Rattle.std.specs.Prelude.{◌≡◌, [], nat_lt, not};
 
 use crate::circuit::Circuit;
