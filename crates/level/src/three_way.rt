@@ -40,25 +40,20 @@ impl LineValue for ThreeWay {
     }
 
     fn and(self, other: Self) -> Self {
-        ThreeWay(match (self.0, other.0) {
-            (Some(a), Some(b)) => Some(a & b),
-            (Some(false), None) | (None, Some(false)) => Some(false),
-            _ => None,
-        })
+        let high = self.0.unwrap_or(true) & other.0.unwrap_or(true);
+        let known = !high | (self.0.is_some() & other.0.is_some());
+        ThreeWay(known.then_some(high))
     }
 
     fn or(self, other: Self) -> Self {
-        ThreeWay(match (self.0, other.0) {
-            (Some(a), Some(b)) => Some(a | b),
-            (Some(true), None) | (None, Some(true)) => Some(true),
-            _ => None,
-        })
+        let high = self.0.unwrap_or(false) | other.0.unwrap_or(false);
+        let known = high | (self.0.is_some() & other.0.is_some());
+        ThreeWay(known.then_some(high))
     }
 
     fn xor(self, other: Self) -> Self {
-        ThreeWay(match (self.0, other.0) {
-            (Some(a), Some(b)) => Some(a != b),
-            _ => None,
-        })
+        let high = self.0.unwrap_or(false) != other.0.unwrap_or(false);
+        let known = self.0.is_some() & other.0.is_some();
+        ThreeWay(known.then_some(high))
     }
 }
