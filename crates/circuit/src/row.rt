@@ -48,7 +48,7 @@ impl Row {
         ensures { result.now ≡ pins_of self.now }
     {
         match self.kind {
-            None | Some(Kind::Input) => &[],
+            None | Some(Kind::Input) => &self.pins[..0],
             Some(_) => &self.pins[..usize::from(self.count).min(8)],
         }
     }

@@ -4,6 +4,7 @@ ghost use Rattle.circuit.specs.Feedback.{Chain, feedback_outcome, feedback_bridg
 
 use crate::bridge::{Bridge, bridge_at};
 use crate::circuit::Circuit;
+use crate::limit::MAX_LINES;
 use crate::refusal::CircuitFault;
 
 fn count_marked(marks: &[bool]) -> usize
@@ -37,7 +38,9 @@ impl Circuit<'_> {
         ensures chain { MatchResult result (λ b. Decides b (Chain self.now.rows.now (low (length self.now.rows.now) number) (high (length self.now.rows.now) number))) (λ _. pairs (length self.now.rows.now) ≤ number) }
     {
         let Bridge { low, high } = self.bridge(number)?;
-        Ok(self.cone(low)[high])
+        let mut marks = [false; MAX_LINES];
+        self.mark_cone(low, &mut marks);
+        Ok(marks[high])
     }
 
     // How many bridges are feedback bridges.
@@ -45,9 +48,11 @@ impl Circuit<'_> {
         ensures { result ≡ feedback_bridges self.now.rows.now }
     {
         let lines = self.rows.len();
+        let mut marks = [false; MAX_LINES];
         let mut total = 0;
         for low in 0..lines {
-            total += count_marked(&self.cone(low)[low + 1..lines]);
+            self.mark_cone(low, &mut marks);
+            total += count_marked(&marks[low + 1..lines]);
         }
         total
     }

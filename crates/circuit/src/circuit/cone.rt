@@ -4,14 +4,18 @@ ghost use Rattle.circuit.specs.Feedback.{cone, reach, Chains};
 ghost use Rattle.circuit.specs.Rows.{pins_of, Below};
 
 use crate::circuit::Circuit;
-use crate::limit::MAX_LINES;
 use crate::row::Row;
 
 fn is_any_marked(pins: &[u16], marks: &[bool]) -> bool
     requires { Below (length marks.now) pins.now }
     ensures { result ≡ list_any (λ p. slice_index_or marks.now p false) pins.now }
 {
-    pins.iter().any(|pin| marks[usize::from(*pin)])
+    for pin in pins {
+        if marks[usize::from(*pin)] {
+            return true;
+        }
+    }
+    false
 }
 
 // Whether the line after those marked is the source, or has a marked pin.
@@ -24,16 +28,14 @@ fn is_reached(source: usize, row: &Row, past: &[bool]) -> bool
 
 impl Circuit<'_> {
     // Marks the source, and each line that a chain of pins leads to from it.
-    pub(crate) fn cone(&self, source: usize) -> [bool; MAX_LINES]
-        ensures room { length self.now.rows.now ≤ length result }
-        ensures marks { take (length self.now.rows.now) result ≡ cone self.now.rows.now source }
+    pub(crate) fn mark_cone(&self, source: usize, marks: &mut [bool])
+        requires room { length self.now.rows.now ≤ length marks.old }
+        ensures marks { take (length self.now.rows.now) marks.new ≡ cone self.now.rows.now source }
         ensures chains { Chains self.now.rows.now source }
     {
-        let mut marks = [false; MAX_LINES];
         for (line, row) in self.rows.iter().enumerate() {
             let reached = is_reached(source, row, &marks[..line]);
             marks[line] = reached;
         }
-        marks
     }
 }

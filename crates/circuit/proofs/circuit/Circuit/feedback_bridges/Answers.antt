@@ -12,17 +12,16 @@ overflow_add-total c =
     let rows = c.args.self.now.rows.now in
     let n = length rows in
     let i = c.loop-low.low in
-    let total : c.loop-low.total ≡ count (begin n i) (feedback_bridge rows) = c.loop-low.invariant in
-    let marks : take n c.cone.result ≡ cone rows i = c.cone.ensures.marks in
-    let counted = cone_count rows i c.cone.result marks (omega (arith, c.cone.ensures.room)) c.loop-low-test.true in
-    omega (arith, counted, total, c.count_marked-total.ensures, count_le (begin n (i + 1)) (feedback_bridge rows), pairs_few n (lawful_lines rows c.args.self.now.lawful))
+    let few = lawful_lines rows c.args.self.now.lawful in
+    let long : length c.mark_cone.new.marks ≡ 1024 = omega (arith, c.mark_cone.auto.marks, c.loop-low.invariant.1) in
+    let counted = cone_count rows i c.mark_cone.new.marks c.mark_cone.ensures.marks (omega (arith, few, long)) c.loop-low-test.true in
+    omega (arith, counted, c.loop-low.invariant.0, c.count_marked-total.ensures, count_le (begin n (i + 1)) (feedback_bridge rows), pairs_few n few)
 
 pub loop-low-preserved : goal.loop-low-preserved
 loop-low-preserved c =
     let rows = c.args.self.now.rows.now in
-    let n = length rows in
     let i = c.loop-low.low in
-    let total : c.loop-low.total ≡ count (begin n i) (feedback_bridge rows) = c.loop-low.invariant in
-    let marks : take n c.cone.result ≡ cone rows i = c.cone.ensures.marks in
-    let counted = cone_count rows i c.cone.result marks (omega (arith, c.cone.ensures.room)) c.loop-low-test.true in
-    (omega (arith, counted, total, c.count_marked-total.ensures))
+    let few = lawful_lines rows c.args.self.now.lawful in
+    let long : length c.mark_cone.new.marks ≡ 1024 = omega (arith, c.mark_cone.auto.marks, c.loop-low.invariant.1) in
+    let counted = cone_count rows i c.mark_cone.new.marks c.mark_cone.ensures.marks (omega (arith, few, long)) c.loop-low-test.true in
+    (omega (arith, counted, c.loop-low.invariant.0, c.count_marked-total.ensures), long)

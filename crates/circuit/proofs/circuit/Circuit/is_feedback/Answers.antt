@@ -2,14 +2,16 @@ use Rattle.std.proofs.Common.{Bool, length, Decides, sym, subst, arith}
 use Rattle.circuit.specs.Bridges.{low, high}
 use Rattle.circuit.specs.Feedback.{Chain, Chains}
 use Rattle.circuit.proofs.Cones.{feedback_read, feedback_answer}
+use Rattle.circuit.proofs.Laws.{lawful_lines}
 use Rattle.circuit.proofs.Numbers.{bridge_found, numbered}
 use Rattle.circuit.proofs.circuit.Circuit.is_feedback.Goals as goal
 
-pub bounds-cone-high : goal.bounds-cone-high
-bounds-cone-high c =
-    let n = length c.args.self.now.rows.now in
+pub bounds-marks-high : goal.bounds-marks-high
+bounds-marks-high c =
+    let circuit = c.args.self.now in
+    let n = length circuit.rows.now in
     let found = bridge_found n c.args.number c.in_ok-low.field-0 c.in_ok-low.ensures in
-    omega (arith, found.2, (numbered n).within c.args.number found.0, c.cone.ensures.room)
+    omega (arith, found.2, (numbered n).within c.args.number found.0, lawful_lines circuit.rows.now circuit.lawful)
 
 pub returns : goal.returns
 returns c =
@@ -18,8 +20,8 @@ returns c =
     let n = length rows in
     let b = c.in_ok-low.field-0 in
     let found = bridge_found n β b c.in_ok-low.ensures in
-    let read = feedback_read rows β b c.cone.result c.in_ok-low.ensures c.cone.ensures.marks in
-    let chains = subst (Chains rows) found.1 c.cone.ensures.chains in
+    let read = feedback_read rows β b c.mark_cone.new.marks c.in_ok-low.ensures c.mark_cone.ensures.marks in
+    let chains = subst (Chains rows) found.1 c.mark_cone.ensures.chains in
     let decided = chains (high n β) ((numbered n).ordered β found.0) ((numbered n).within β found.0) in
     record {
       outcome = feedback_answer rows β _ found.0 read;
