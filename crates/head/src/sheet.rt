@@ -28,16 +28,13 @@ fn reading(mark: u8) -> Option<Reading>
     }
 }
 
-// What a row says, if it is not skipped and has the vector.
+// What a row says, if it is not skipped and has the vector: a skipped one is skipped by its last byte alone.
 fn answer(row: &[u8], vector: &[u8]) -> Option<Reading>
     ensures { let last = length row.now - 1 in result ≡ (if bytes_eq (take last row.now) vector.now then mark_reading (slice_index row.now last) else None) }
 {
     let (mark, bytes) = row.split_last()?;
-    if bytes == vector {
-        reading(*mark)
-    } else {
-        None
-    }
+    let reading = reading(*mark)?;
+    if bytes == vector { Some(reading) } else { None }
 }
 
 // What the first row says that is not skipped and has the vector.
