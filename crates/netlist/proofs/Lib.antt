@@ -1,6 +1,7 @@
 pub mod Accepts
 pub mod Cuts
 pub mod Drawn
+pub mod Ends
 pub mod Forms
 pub mod Found
 pub mod Grows

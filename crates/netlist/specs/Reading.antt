@@ -25,10 +25,10 @@ lines_from text at = line text at ∷ lines_after text at
 abbrev pub statements_from : List ℕ → ℕ → List (Result Statement TokenFault)
 statements_from text at = map (said Start) (lines_from text at)
 
--- the same, or nothing after the last text line
-abbrev pub statements_of : List ℕ → Option ℕ → List (Result Statement TokenFault)
-statements_of text None = []
-statements_of text (Some at) = statements_from text at
+-- what the text lines say that begin after a place; all of them where there is none
+abbrev pub statements_after : List ℕ → Option ℕ → List (Result Statement TokenFault)
+statements_after text None = statements_from text 0
+statements_after text (Some at) = map (said Start) (lines_after text at)
 
 abbrev pub after_line : List ℕ → ℕ → List Row → Result Statement TokenFault → Result (List Row) NetlistFault
 after_line text room rows (Ok x) = after_statement text room rows x

@@ -1,4 +1,5 @@
-ghost use Rattle.std.specs.Prelude.{[], length, take};
+ghost use Rattle.std.specs.Prelude.{◌≡◌, ◌-◌, ◌≤◌, [], length, take, drop, replicate};
+ghost use Rattle.circuit.specs.Rows.{blank};
 ghost use Rattle.netlist.specs.Accepted.{Accepted, LinesOf, SameWithMore, MakesCircuit};
 ghost use Rattle.netlist.specs.Cutting.{CutOneWay};
 ghost use Rattle.netlist.specs.Definitions.{Gives};
@@ -49,12 +50,27 @@ fn read_rows(bytes: &[u8], rows: &mut [Row]) -> Result<usize, NetlistFault>
     Ok(count)
 }
 
+fn blank_from(rows: &mut [Row], start: usize)
+    requires { start ≤ length rows.old }
+    ensures front { take start rows.new ≡ take start rows.old }
+    ensures rest { drop start rows.new ≡ replicate (length rows.old - start) blank }
+{
+    rows[start..].fill(Row::BLANK);
+}
+
 fn read_or_blank(text: &[u8], rows: &mut [Row]) -> Result<usize, NetlistFault>
     ensures { Answers (reading text.now (length rows.old)) (length rows.old) rows.new result }
 {
-    let result = read_rows(text, rows);
-    rows[result.unwrap_or(0)..].fill(Row::BLANK);
-    result
+    match read_rows(text, rows) {
+        Ok(count) => {
+            blank_from(rows, count);
+            Ok(count)
+        }
+        Err(fault) => {
+            blank_from(rows, 0);
+            Err(fault)
+        }
+    }
 }
 
 // Reads the netlist: a row for each line, in order, and how many there are. The rows past the last line
