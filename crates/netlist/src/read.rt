@@ -58,6 +58,7 @@ fn blank_from(rows: &mut [Row], start: usize)
     rows[start..].fill(Row::BLANK);
 }
 
+// Each arm blanks its rows: one call for both stores them piece by piece, at twice the time.
 fn read_or_blank(text: &[u8], rows: &mut [Row]) -> Result<usize, NetlistFault>
     ensures { Answers (reading text.now (length rows.old)) (length rows.old) rows.new result }
 {

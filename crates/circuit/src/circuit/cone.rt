@@ -6,6 +6,7 @@ ghost use Rattle.circuit.specs.Rows.{pins_of, Below};
 use crate::circuit::Circuit;
 use crate::row::Row;
 
+// A loop, since `any` over the pins makes a cone half as dear again.
 fn is_any_marked(pins: &[u16], marks: &[bool]) -> bool
     requires { Below (length marks.now) pins.now }
     ensures { result ≡ list_any (λ p. slice_index_or marks.now p false) pins.now }
