@@ -15,35 +15,35 @@ use Rattle.netlist.specs.declared.statement.Statement.{Statement}
 use Rattle.netlist.specs.declared.token.Token.{Token}
 use Rattle.netlist.specs.declared.token.Token.TheVariants.{Word, Mark, End}
 
--- the text lines that begin after the end are these
-abbrev pub Ends : List ℕ → ℕ → List (List Tok) → Tok → Type 0
-Ends text at ls (word w p) = Unit {0}
-Ends text at ls (mark b p) = Unit {0}
-Ends text at ls (end p) = (at ≤ p) × (p ≤ length text) × (lines_after text p ≡ ls)
+-- the end stands in the text, and the text lines that begin after it are these
+abbrev pub Ends : List ℕ → List (List Tok) → Tok → Type 0
+Ends text ls (word w p) = Unit {0}
+Ends text ls (mark b p) = Unit {0}
+Ends text ls (end p) = (p ≤ length text) × (lines_after text p ≡ ls)
 
-module _ (text : List ℕ) (at : ℕ) (ls : List (List Tok)) where
-  flush_ends : (w : List ℕ) (p : ℕ) (ts : List Tok) → AllByRecursion (Ends text at ls) ts → AllByRecursion (Ends text at ls) (flush w p ts)
+module _ (text : List ℕ) (ls : List (List Tok)) where
+  flush_ends : (w : List ℕ) (p : ℕ) (ts : List Tok) → AllByRecursion (Ends text ls) ts → AllByRecursion (Ends text ls) (flush w p ts)
   unfolding flush
-  flush_ends w p ts a = cond_both (eqb (length w) 0) ts (word w (p - length w) ∷ ts) (AllByRecursion (Ends text at ls)) (λ e. a) (λ e. (tt, a))
+  flush_ends w p ts a = cond_both (eqb (length w) 0) ts (word w (p - length w) ∷ ts) (AllByRecursion (Ends text ls)) (λ e. a) (λ e. (tt, a))
 
-  tokens_end : (w bs : List ℕ) (p : ℕ) → at ≤ p → p ≤ length text → drop p text ≡ bs → later bs p ≡ ls → AllByRecursion (Ends text at ls) (tokens w bs p)
+  tokens_end : (w bs : List ℕ) (p : ℕ) → p ≤ length text → drop p text ≡ bs → later bs p ≡ ls → AllByRecursion (Ends text ls) (tokens w bs p)
   unfolding tokens later
-  tokens_end w [] p h k d e = flush_ends w p (end p ∷ []) ((h, k, ap (λ l. later l p) d ∙ e), tt)
-  tokens_end w (b ∷ bs) p h k d e =
-      let here : (at ≤ p) × (p ≤ length text) × (lines_after text p ≡ ls) = (h, k, ap (λ l. later l p) d ∙ e) in
+  tokens_end w [] p k d e = flush_ends w p (end p ∷ []) ((k, ap (λ l. later l p) d ∙ e), tt)
+  tokens_end w (b ∷ bs) p k d e =
+      let here : (p ≤ length text) × (lines_after text p ≡ ls) = (k, ap (λ l. later l p) d ∙ e) in
       let long : suc (length bs) ≡ length text - p = sym (ap length d) ∙ length-drop p text in
       let next : drop (p + 1) text ≡ bs = sym (drop-drop 1 p text) ∙ ap (drop 1) d in
-      let on : (v : List ℕ) → eqb b 10 ≡ false → AllByRecursion (Ends text at ls) (tokens v bs (p + 1)) =
-      λ v f. tokens_end v bs (p + 1) (omega arith) (omega arith) next (sym (cond-false _ _ _ f) ∙ e) in
-      cond_both (word_byte b) _ _ (AllByRecursion (Ends text at ls))
+      let on : (v : List ℕ) → eqb b 10 ≡ false → AllByRecursion (Ends text ls) (tokens v bs (p + 1)) =
+      λ v f. tokens_end v bs (p + 1) (omega arith) next (sym (cond-false _ _ _ f) ∙ e) in
+      cond_both (word_byte b) _ _ (AllByRecursion (Ends text ls))
       (λ f. on (w ++ b ∷ []) (grind (arith, nat_tests)))
       (λ f. flush_ends w p _
-      (cond_both (blank_byte b) _ _ (AllByRecursion (Ends text at ls)) (λ g. on [] (grind (arith, nat_tests)))
-      (λ g. cond_both (stop_byte b) (end p ∷ []) (mark b p ∷ tokens [] bs (p + 1)) (AllByRecursion (Ends text at ls)) (λ s. (here, tt)) (λ s. (tt, on [] (grind (arith, nat_tests)))))))
+      (cond_both (blank_byte b) _ _ (AllByRecursion (Ends text ls)) (λ g. on [] (grind (arith, nat_tests)))
+      (λ g. cond_both (stop_byte b) (end p ∷ []) (mark b p ∷ tokens [] bs (p + 1)) (AllByRecursion (Ends text ls)) (λ s. (here, tt)) (λ s. (tt, on [] (grind (arith, nat_tests)))))))
 
 -- the text lines after a text line's end are those after its place
-pub line_ends : (text : List ℕ) (at : ℕ) → at ≤ length text → AllByRecursion (Ends text at (lines_after text at)) (line text at)
-line_ends text at h = tokens_end text at (lines_after text at) [] (drop at text) at (omega arith) h refl refl
+pub line_ends : (text : List ℕ) (at : ℕ) → at ≤ length text → AllByRecursion (Ends text (lines_after text at)) (line text at)
+line_ends text at h = tokens_end text (lines_after text at) [] (drop at text) at h refl refl
 
 breaks : Step → ℕ
 breaks (Ok (Continue n)) = 0
@@ -92,7 +92,7 @@ unfolding breaks
 no_break r x z e = let one : ◌≡◌ {A = ℕ} 0 1 = sym z ∙ ap breaks e in omega arith
 
 -- a statement is whole at the end of its tokens
-pub whole_at_end : (s : State) (t : Token) (x : Statement) → stepped s (tok t) ≡ Ok (Break x) → (text : List ℕ) (at : ℕ) (ls : List (List Tok)) → Ends text at ls (tok t) → Ends text at ls (end (place_of t))
-whole_at_end s (Word bytes p) x e text at ls h = absurd (no_break _ x (word_goes_on s bytes.now p) e)
-whole_at_end s (Mark b p) x e text at ls h = absurd (no_break _ x (mark_goes_on s b p) e)
-whole_at_end s (End p) x e text at ls h = h
+pub whole_at_end : (s : State) (t : Token) (x : Statement) → stepped s (tok t) ≡ Ok (Break x) → (text : List ℕ) (ls : List (List Tok)) → Ends text ls (tok t) → Ends text ls (end (place_of t))
+whole_at_end s (Word bytes p) x e text ls h = absurd (no_break _ x (word_goes_on s bytes.now p) e)
+whole_at_end s (Mark b p) x e text ls h = absurd (no_break _ x (mark_goes_on s b p) e)
+whole_at_end s (End p) x e text ls h = h

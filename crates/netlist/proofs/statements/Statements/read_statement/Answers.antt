@@ -28,7 +28,7 @@ loop-token-preserved c =
       sym (said_first c.loop-token.state _ _ _ _ steps leads) ∙ c.loop-token.invariant.0,
       ends_on c.loop-token.state c.in-Continue.next _ _ _ steps leads c.loop-token.invariant.1,
       (subst (AllByRecursion (Before (length text))) steps c.loop-token.invariant.2).1,
-      (subst (AllByRecursion (Ends text at (lines_after text at))) steps c.loop-token.invariant.3).1,
+      (subst (AllByRecursion (Ends text (lines_after text at))) steps c.loop-token.invariant.3).1,
       c.loop-token.invariant.4,
       c.loop-token.invariant.5,
     )
@@ -39,12 +39,12 @@ returns-in-Break c =
     let at = c.args.at in
     let steps = c.in-Some.ensures.steps in
     let leads = sym c.advance.ensures ∙ c.in_ok-next.was ∙ ap Ok c.in-Break.is in
-    let first = subst (AllByRecursion (Ends text at (lines_after text at))) steps c.loop-token.invariant.3 in
-    let ends = whole_at_end c.loop-token.state _ _ leads text at (lines_after text at) first.0 in
+    let first = subst (AllByRecursion (Ends text (lines_after text at))) steps c.loop-token.invariant.3 in
+    let ends = whole_at_end c.loop-token.state _ _ leads text (lines_after text at) first.0 in
     record {
       says = sym (said_first c.loop-token.state _ _ _ _ steps leads) ∙ c.loop-token.invariant.0;
       text = c.loop-token.invariant.4;
-      after = rw c.place.ensures (ap (map (said Start)) ends.2);
+      after = rw c.place.ensures (ap (map (said Start)) ends.1);
     }
 
 pub returns-in_err-next : goal.returns-in_err-next

@@ -15,6 +15,6 @@ invariant-loop-token l =
     (said l.state left ≡ said Start (line text l.at))
     × OneEnd left
     × AllByRecursion (Before (length text)) left
-    × AllByRecursion (Ends text l.at (lines_after text l.at)) left
+    × AllByRecursion (Ends text (lines_after text l.at)) left
     × (l.self.text.bytes.now ≡ text)
     × (l.self.end ≡ Some l.at)
